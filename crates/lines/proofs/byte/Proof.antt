@@ -1,0 +1,53 @@
+use mathlib.Core.Path.{_∙_}
+use Rattle.lines.proofs.Laws.{byte-some, byte-none}
+use borrow.Author.Needs.{needs}
+use Rattle.lines.proofs.byte.Statement.{statement}
+use Rattle.lines.proofs.byte.Tie as tie
+use Rattle.lines.proofs.byte.Reads as reads
+use Rattle.lines.proofs.byte.Lts as lts
+use Rattle.lines.proofs.byte_of.Reads as byte-of-reads
+
+-- src/lib.rt:110:9
+returns : tie.Need-returns
+returns c = byte-none _ _ (c .if1 .taken)
+
+-- src/lib.rt:112:19
+mul-byte-of : tie.Need-mul-byte-of
+mul-byte-of c = search needs
+
+-- src/lib.rt:112:13
+shared-slice-read-byte-of : tie.Need-shared-slice-read-byte-of
+shared-slice-read-byte-of c = search needs
+
+-- src/lib.rt:112:33
+mul-byte-of-2 : tie.Need-mul-byte-of-2
+mul-byte-of-2 c = search needs
+
+-- src/lib.rt:112:33
+add-byte-of : tie.Need-add-byte-of
+add-byte-of c = search needs
+
+-- src/lib.rt:112:27
+shared-slice-read-byte-of-2 : tie.Need-shared-slice-read-byte-of-2
+shared-slice-read-byte-of-2 c = search needs
+
+-- src/lib.rt:112:5
+byte-of-requires : tie.Need-byte-of-requires
+byte-of-requires c κs = search needs
+
+-- src/lib.rt:106:1
+returns-2 : tie.Need-returns-2
+returns-2 c = c .byte-of .ensures ∙ byte-some _ _ (c .before .before .before .if1 .left)
+
+pub byte-spec : {M : Type 1} → statement M
+byte-spec =
+    tie.close
+    (tie.spec
+    returns
+    mul-byte-of
+    shared-slice-read-byte-of
+    mul-byte-of-2
+    add-byte-of
+    shared-slice-read-byte-of-2
+    byte-of-requires
+    returns-2)

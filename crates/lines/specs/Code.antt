@@ -1,0 +1,30 @@
+-- What the functions on characters compute whatever the characters are. `proofs/Laws.antt` shows what it is where they are a line's.
+use Prim.Native.Nat.{ℕ, suc, _+_, _-_, _*_, _/_, _%_}
+use mathlib.Core.List.{List, [], _∷_}
+use mathlib.Core.Bool.{_&&_}
+use lib.ListN.{length, getD, take, drop}
+use lib.Dec.{leb}
+use Rattle.lines.specs.Line.{choose, digit}
+
+-- how many digits a text starts with
+unfoldable pub run : List ℕ → ℕ
+run [] = 0
+run (c ∷ cs) = choose (leb 16 (digit c)) 0 (suc (run cs))
+
+-- the part of a text from a to e, and nothing where it has no such part
+unfoldable pub part : List ℕ → ℕ → ℕ → List ℕ
+part s a e = choose (leb a e && leb e (length s)) (take (e - a) (drop a s)) []
+
+-- the byte of two characters
+abbrev pub byteOf : ℕ → ℕ → ℕ
+byteOf h l = digit h % 16 * 16 + digit l % 16
+
+-- byte number k, and 0 where the characters have no such byte
+unfoldable pub byteAt : List ℕ → ℕ → ℕ
+byteAt cs k = choose (leb (length cs / 2) k) 0 (byteOf (getD cs (2 * k) 0) (getD cs (2 * k + 1) 0))
+
+-- the number of all the characters' bytes, within 64 bits, behind what was read of it
+unfoldable pub numberOf : ℕ → List ℕ → ℕ
+numberOf n [] = n
+numberOf n (h ∷ []) = n
+numberOf n (h ∷ l ∷ cs) = numberOf (n % 72057594037927936 * 256 + byteOf h l) cs

@@ -1,0 +1,86 @@
+-- Document 01, 'Lines': text is lines of hexadecimal, one frame a line: digits 0-9 a-f, an even count, at least two, LF after
+-- every line; numbers of several bytes are high byte first.
+use Prim.Native.Nat.{ℕ, _+_, _-_, _*_}
+use mathlib.Core.Bool.{Bool, true, false, _&&_}
+use mathlib.Core.List.{List, [], _∷_}
+use mathlib.Core.Option.{Option, none, some}
+use lib.ListN.{length}
+use lib.Dec.{leb, ltb, eqb}
+use Rattle.lines.specs.declared.Line.{Line}
+use Rattle.lines.specs.declared.Line.the-variants.{Found, NoLine, End}
+
+-- one of two, by a test
+abbrev pub choose {ℓ} : {A : Type ℓ} → Bool → A → A → A
+choose true a b = a
+choose false a b = b
+
+-- the line feed
+abbrev pub LF : ℕ
+LF = 10
+
+-- what a character counts as a digit of hexadecimal, and 16 where it is none
+unfoldable pub digit : ℕ → ℕ
+digit c = choose (leb 48 c && leb c 57) (c - 48) (choose (leb 97 c && leb c 102) (c - 87) 16)
+
+-- a line as it stands in a text: its characters with the LF behind them, or the last ones with no LF
+pub data Raw : Type 0 where
+  full : List ℕ → Raw
+  open-ended : List ℕ → Raw
+
+-- a character in front of the lines of what follows it
+unfoldable pub before : ℕ → List Raw → List Raw
+before c [] = open-ended (c ∷ []) ∷ []
+before c (full cs ∷ ls) = full (c ∷ cs) ∷ ls
+before c (open-ended cs ∷ ls) = open-ended (c ∷ cs) ∷ ls
+
+-- the lines of a text
+unfoldable pub lines : List ℕ → List Raw
+lines [] = []
+lines (c ∷ cs) = choose (eqb c LF) (full [] ∷ lines cs) (before c (lines cs))
+
+-- a byte by its two digits, before the bytes that follow
+unfoldable pub pair : ℕ → ℕ → Option (List ℕ) → Option (List ℕ)
+pair h l none = none
+pair h l (some bs) = choose (ltb h 16 && ltb l 16) (some ((h * 16 + l) ∷ bs)) none
+
+-- the bytes that pairs of digits stand for
+unfoldable pub bytes : List ℕ → Option (List ℕ)
+bytes [] = some []
+bytes (h ∷ []) = none
+bytes (h ∷ l ∷ cs) = pair (digit h) (digit l) (bytes cs)
+
+-- the bytes of a line, the frame; none where it is no line
+unfoldable pub frame : Raw → Option (List ℕ)
+frame (open-ended cs) = none
+frame (full []) = none
+frame (full (c ∷ cs)) = bytes (c ∷ cs)
+
+-- the characters of a line
+unfoldable pub characters : Raw → List ℕ
+characters (full cs) = cs
+characters (open-ended cs) = cs
+
+-- a number of several bytes, high byte first, behind what was read of it
+unfoldable pub number-from : ℕ → List ℕ → ℕ
+number-from n [] = n
+number-from n (b ∷ bs) = number-from (n * 256 + b) bs
+
+-- a number of several bytes
+abbrev pub number : List ℕ → ℕ
+number bs = number-from 0 bs
+
+-- the answer for the first of a text's lines, where the text stands from `at` on: where its characters end and where the next
+-- line begins, or that it is none (refusal 1), or that there is no line left
+unfoldable pub seen : ℕ → List ℕ → Option (List ℕ) → Line
+seen at cs none = NoLine
+seen at cs (some bs) = Found (at + length cs) (at + length cs + 1)
+
+unfoldable pub answer : ℕ → List Raw → Line
+answer at [] = End
+answer at (l ∷ ls) = seen at (characters l) (frame l)
+
+-- the paper's number of each answer that is no line, where a line is wanted: 1 for no line, 2 for a text that ends early
+unfoldable pub refusal : Line → ℕ
+refusal (Found e n) = 0
+refusal NoLine = 1
+refusal End = 2

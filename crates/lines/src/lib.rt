@@ -1,0 +1,134 @@
+// Lines of hexadecimal: where the next line of a text ends, and the bytes that its digits stand for.
+// It relies on nothing; every reader of a text above stands on it.
+ghost use mathlib.Core.Path.{_≡_};
+ghost use Prim.Native.Nat.{ℕ, _+_, _*_, _-_, _≤_, _<_};
+ghost use lib.ListN.{length, take, drop, getD};
+ghost use Rattle.lines.specs.Line.{digit, lines, answer, refusal};
+ghost use Rattle.lines.specs.Code.{run, part, byteOf, byteAt, numberOf};
+
+const LF: u8 = 10;
+
+const LOW_56_BITS: u64 = 72057594037927936;
+
+// What stands at a cursor: a line, whose characters run from the cursor up to `end`, with the next line from `next` on;
+// something that is no line; or the end of the text.
+pub enum Line {
+    Found { end: usize, next: usize },
+    NoLine,
+    End,
+}
+
+// The next line of a text from a cursor.
+pub fn next_line(text: &[u8], at: usize) -> Line
+    ensures { λ r. ⌜ r ≡ answer at (lines (drop at (now (text .entry)))) ⌝ }
+{
+    if text.len() <= at {
+        return Line::End;
+    }
+    let end = digits_end(text, at);
+    if text.len() <= end {
+        return Line::NoLine;
+    }
+    if text[end] != LF {
+        return Line::NoLine;
+    }
+    let count = end - at;
+    if count == 0 {
+        return Line::NoLine;
+    }
+    if count % 2 != 0 {
+        return Line::NoLine;
+    }
+    Line::Found { end, next: end + 1 }
+}
+
+// The characters from `at` up to `end` as they stand in the text; none where there is no such part.
+pub fn characters(text: &[u8], at: usize, end: usize) -> &[u8]
+    ensures { λ r. ⌜ now r ≡ part (now (text .entry)) at end ⌝ }
+{
+    let n = text.len();
+    if end < at {
+        return &text[n..];
+    }
+    if n < end {
+        return &text[n..];
+    }
+    &text[at..end]
+}
+
+// The number of the refusal where a line is wanted and there is none.
+pub fn refusal_of(line: Line) -> u8
+    ensures { λ r. ⌜ r ≡ refusal line ⌝ }
+{
+    match line {
+        Line::Found { end: _, next: _ } => 0,
+        Line::NoLine => 1,
+        Line::End => 2,
+    }
+}
+
+// The first place at or after `from` that holds no digit.
+fn digits_end(text: &[u8], from: usize) -> usize
+    requires { ⌜ from ≤ length (now text) ⌝ }
+    ensures { λ r. ⌜ (r ≡ from + run (drop from (now (text .entry)))) × (r ≤ length (now (text .entry))) ⌝ }
+{
+    let mut i = from;
+    while i < text.len() {
+        let value = digit_value(text[i]);
+        if 16 <= value {
+            return i;
+        }
+        i += 1;
+    }
+    i
+}
+
+// What a character counts as a digit, 16 where it is none.
+fn digit_value(c: u8) -> u8
+    ensures { λ r. ⌜ r ≡ digit c ⌝ }
+{
+    if c < 48 {
+        return 16;
+    }
+    if c <= 57 {
+        return c - 48;
+    }
+    if c < 97 {
+        return 16;
+    }
+    if c <= 102 {
+        return c - 87;
+    }
+    16
+}
+
+// Byte number k of a line's characters, 0 where they have no such byte.
+pub fn byte(chars: &[u8], k: usize) -> u8
+    ensures { λ r. ⌜ r ≡ byteAt (now (chars .entry)) k ⌝ }
+{
+    if chars.len() / 2 <= k {
+        return 0;
+    }
+    byte_of(chars[2 * k], chars[2 * k + 1])
+}
+
+// The number that all the characters' bytes make, high byte first.
+pub fn number(chars: &[u8]) -> u64
+    ensures { λ r. ⌜ r ≡ numberOf 0 (now (chars .entry)) ⌝ }
+{
+    let n = chars.len() / 2;
+    let mut number: u64 = 0;
+    let mut k = 0;
+    while k < n {
+        number = number % LOW_56_BITS * 256 + byte_of(chars[2 * k], chars[2 * k + 1]) as u64;
+        k += 1;
+    }
+    number
+}
+
+// The byte of two characters.
+fn byte_of(high: u8, low: u8) -> u8
+    ensures { λ r. ⌜ r ≡ byteOf high low ⌝ }
+{
+    digit_value(high) % 16 * 16 + digit_value(low) % 16
+}
