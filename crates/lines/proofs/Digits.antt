@@ -62,10 +62,22 @@ split [] = record { digits = []; rest = []; whole = refl; are-digits = no-more; 
 split (d ∷ ds) = go (leb 16 (digit d)) refl (split ds)
   where
     go : (b : Bool) → leb 16 (digit d) ≡ b → Split ds → Split (d ∷ ds)
-    go true e r = record { digits = []; rest = d ∷ ds; whole = refl; are-digits = no-more; counted = simp e;
-      ends = λ c cs q. rw (← head-of c d cs ds q) (leb-true 16 (digit d) e) }
-    go false e r = record { digits = d ∷ r .digits; rest = r .rest; whole = ap (λ (l : List ℕ). d ∷ l) (r .whole);
-      are-digits = one-more (leb-false 16 (digit d) e) (r .are-digits); counted = simp e (ap suc (r .counted)); ends = r .ends }
+    go true e r = record {
+      digits = [];
+      rest = d ∷ ds;
+      whole = refl;
+      are-digits = no-more;
+      counted = simp e;
+      ends = λ c cs q. rw (← head-of c d cs ds q) (leb-true 16 (digit d) e);
+    }
+    go false e r = record {
+      digits = d ∷ r .digits;
+      rest = r .rest;
+      whole = ap (λ (l : List ℕ). d ∷ l) (r .whole);
+      are-digits = one-more (leb-false 16 (digit d) e) (r .are-digits);
+      counted = simp e (ap suc (r .counted));
+      ends = r .ends;
+    }
 
 -- a run with an LF behind it is a line
 pub lines-full : (ds rest : List ℕ) → Digits ds → lines (ds ++ LF ∷ rest) ≡ full ds ∷ lines rest
@@ -113,7 +125,7 @@ pair-some h l none bs e = let z : _≡_ {A = ℕ} 0 1 = cc in absurd (omega arit
 pair-some h l (some cs) bs e = go (ltb h 16) (ltb l 16) refl refl e
   where
     go : (p q : Bool) → ltb h 16 ≡ p → ltb l 16 ≡ q → choose (p && q) (some ((h * 16 + l) ∷ cs)) none ≡ some bs
-      → (h < 16) × (l < 16) × ((xs : List ℕ) × (some cs ≡ some xs) × (bs ≡ (h * 16 + l) ∷ xs))
+        → (h < 16) × (l < 16) × ((xs : List ℕ) × (some cs ≡ some xs) × (bs ≡ (h * 16 + l) ∷ xs))
     go true true e₁ e₂ e = (ltb-true h 16 e₁, ltb-true l 16 e₂, (cs, refl, cc))
     go true false e₁ e₂ e = let z : _≡_ {A = ℕ} 0 1 = cc in absurd (omega arith)
     go false true e₁ e₂ e = let z : _≡_ {A = ℕ} 0 1 = cc in absurd (omega arith)

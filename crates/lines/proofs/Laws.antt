@@ -122,7 +122,7 @@ lines-first [] cs ls e = let z : _≡_ {A = ℕ} 0 1 = cc in absurd (omega arith
 lines-first (c ∷ t) cs ls e = go (eqb c LF) refl e (λ ds q. lines-first t ds ls q)
   where
     go : (b : Bool) → eqb c LF ≡ b → choose b (full [] ∷ lines t) (before c (lines t)) ≡ full cs ∷ ls
-      → ((ds : List ℕ) → lines t ≡ full ds ∷ ls → First t ds ls) → First (c ∷ t) cs ls
+        → ((ds : List ℕ) → lines t ≡ full ds ∷ ls → First t ds ls) → First (c ∷ t) cs ls
     go true q e further =
         let f : c ≡ LF = eqb-true c LF q in
         let n : cs ≡ [] = cc in
@@ -175,8 +175,15 @@ found-line s at e n (full (c ∷ cs)) ls q h = go (bytes (c ∷ cs)) refl h
         let k : length s - at ≡ length (c ∷ cs) + suc (length (f .0)) = long s (c ∷ cs) (f .0) at (f .1) in
         let p : part s at e ≡ c ∷ cs = ap (part s at) (sym es) ∙ part-is s (c ∷ cs) (f .0) at (f .1) in
         let r : drop n s ≡ f .0 = ap (λ (m : ℕ). drop m s) (sym ns) ∙ rest-behind s (c ∷ cs) (f .0) at (f .1) in
-        record { held = bs; first = rw (p, r) (q ∙ ap (λ (t : List Raw). full (c ∷ cs) ∷ t) (f .2)); framed = rw p b; stands = rw p b;
-          some-bytes = omega arith; behind = omega arith; within = omega arith }
+        record {
+          held = bs;
+          first = rw (p, r) (q ∙ ap (λ (t : List Raw). full (c ∷ cs) ∷ t) (f .2));
+          framed = rw p b;
+          stands = rw p b;
+          some-bytes = omega arith;
+          behind = omega arith;
+          within = omega arith;
+        }
 
 -- no line, or none left
 pub record NotALine (s : List ℕ) (at : ℕ) : Type 0 where
@@ -201,6 +208,7 @@ module _ (s : List ℕ) (at : ℕ) where
       none-of : (l : Raw) (ls : List Raw) (o : Option (List ℕ)) → lines (drop at s) ≡ l ∷ ls → frame l ≡ o → seen at (characters l) o ≡ NoLine → NotALine s at
       none-of l ls none q f h = record { line = l; others = ls; first = q; broken = f }
       none-of l ls (some bs) q f h = let z : _≡_ {A = ℕ} 0 1 = cc in absurd (omega arith)
+
       go : (ls : List Raw) → lines (drop at s) ≡ ls → answer at ls ≡ NoLine → NotALine s at
       go [] q h = let z : _≡_ {A = ℕ} 0 1 = cc in absurd (omega arith)
       go (l ∷ ls) q h = none-of l ls (frame l) q refl h
@@ -212,6 +220,7 @@ module _ (s : List ℕ) (at : ℕ) where
       not-end : (cs : List ℕ) (o : Option (List ℕ)) → seen at cs o ≡ End → ⊥
       not-end cs none h = let z : _≡_ {A = ℕ} 0 1 = cc in omega arith
       not-end cs (some bs) h = let z : _≡_ {A = ℕ} 0 1 = cc in omega arith
+
       go : (ls : List Raw) → lines (drop at s) ≡ ls → answer at ls ≡ End → ls ≡ []
       go [] q h = refl
       go (l ∷ ls) q h = absurd (not-end (characters l) (frame l) h)
@@ -242,7 +251,7 @@ module _ (cs : List ℕ) (k : ℕ) where
 
 -- the number of the characters from 2 k on takes in one byte more
 pub number-more : (cs : List ℕ) (k n : ℕ) → k < length cs / 2
-  → numberOf n (drop (2 * k) cs) ≡ numberOf (n % 72057594037927936 * 256 + byteOf (getD cs (2 * k) 0) (getD cs (2 * k + 1) 0)) (drop (2 * (k + 1)) cs)
+    → numberOf n (drop (2 * k) cs) ≡ numberOf (n % 72057594037927936 * 256 + byteOf (getD cs (2 * k) 0) (getD cs (2 * k + 1) 0)) (drop (2 * (k + 1)) cs)
 unfolding numberOf
 number-more cs k n h =
     let m : 2 * (k + 1) ≡ suc (suc (2 * k)) = omega arith in

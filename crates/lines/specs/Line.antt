@@ -1,8 +1,8 @@
 -- Document 01, 'Lines': text is lines of hexadecimal, one frame a line: digits 0-9 a-f, an even count, at least two, LF after
 -- every line; numbers of several bytes are high byte first.
-use Prim.Native.Nat.{ℕ, _+_, _-_, _*_}
+use Prim.Native.Nat.{ℕ, _+_, _-_, _*_, _/_, _%_}
 use mathlib.Core.Bool.{Bool, true, false, _&&_}
-use mathlib.Core.List.{List, [], _∷_}
+use mathlib.Core.List.{List, [], _∷_, _++_}
 use mathlib.Core.Option.{Option, none, some}
 use lib.ListN.{length}
 use lib.Dec.{leb, ltb, eqb}
@@ -68,6 +68,20 @@ number-from n (b ∷ bs) = number-from (n * 256 + b) bs
 -- a number of several bytes
 abbrev pub number : List ℕ → ℕ
 number bs = number-from 0 bs
+
+-- the character of a digit
+unfoldable pub character : ℕ → ℕ
+character d = choose (ltb d 10) (48 + d) (87 + d)
+
+-- bytes as hexadecimal
+unfoldable pub hex : List ℕ → List ℕ
+hex [] = []
+hex (b ∷ bs) = character (b / 16) ∷ character (b % 16) ∷ hex bs
+
+-- frames as a text, a line each
+unfoldable pub text : List (List ℕ) → List ℕ
+text [] = []
+text (bs ∷ fs) = hex bs ++ LF ∷ text fs
 
 -- the answer for the first of a text's lines, where the text stands from `at` on: where its characters end and where the next
 -- line begins, or that it is none (refusal 1), or that there is no line left

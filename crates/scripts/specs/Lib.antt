@@ -1,0 +1,2 @@
+-- What a script's lines ask for: `Script`.
+pub mod Script
