@@ -1,0 +1,118 @@
+-- What a line of a text says at a cursor, and what taking a frame in does to what the loop keeps. The path lengths of the terms due are `depth`, of the next, and behind it the
+-- others in the array `waiting`, the last of them first. `proofs/Taking.antt` shows that it is what `taken` says.
+use Prim.Native.Nat.{ℕ, _+_, _-_, _≤_}
+use mathlib.Core.Path.{_≡_}
+use mathlib.Core.List.{List, [], _∷_}
+use mathlib.Core.Option.{Option, none, some}
+use lib.ListN.{length, getD, set}
+use lib.Dec.{eqb}
+use Rattle.lines.specs.Line.{choose, Raw, frame, characters}
+use Rattle.tables.specs.Kind.{subterms}
+use Rattle.tables.specs.Table.{frame-of, first-refusal, refusal, term-room}
+use Rattle.tables.specs.declared.Frame.{Frame}
+use Rattle.tables.specs.declared.Frame.the-variants.{Opening, Definition, Term, Closing, Wrong}
+use Rattle.tables.specs.declared.Seen.{Seen}
+use Rattle.tables.specs.declared.Said.{Said}
+use Rattle.tables.specs.declared.Said.the-variants.{Goes, Stops}
+use Rattle.tables.specs.declared.Opened.{Opened}
+use Rattle.tables.specs.declared.Opened.the-variants.{Table, Fails}
+
+-- what a line says, where its text stands from `at` on: its frame and where the next line begins, or the number that it meets
+unfoldable pub heard : (Frame → ℕ) → ℕ → Option (List ℕ) → Said
+heard r next none = Stops 1
+heard r next (some bs) =
+    choose (eqb (r (frame-of bs)) 0) (Goes (frame-of bs) next) (Stops (r (frame-of bs)))
+
+unfoldable pub said : (Frame → ℕ) → ℕ → List Raw → Said
+said r at [] = Stops 2
+said r at (l ∷ ls) = heard r (at + length (characters l) + 1) (frame l)
+
+-- line 1 by its frame, where the next line begins at `next`: what it opens, or the number that it meets
+unfoldable pub opens : ℕ → Frame → Opened
+opens next Wrong = Fails 2
+opens next (Opening ed dd ee) = choose (eqb (first-refusal (Opening ed dd ee)) 0) (Table dd ee next) (Fails 3)
+opens next (Definition n) = Fails 2
+opens next (Term k p) = Fails 2
+opens next (Closing t) = Fails 2
+
+unfoldable pub opened-by : ℕ → Option (List ℕ) → Opened
+opened-by next none = Fails 1
+opened-by next (some bs) = opens next (frame-of bs)
+
+-- line 1 of a text
+unfoldable pub opened : List Raw → Opened
+opened [] = Fails 2
+opened (l ∷ ls) = opened-by (length (characters l) + 1) (frame l)
+
+-- the number that a line stops with
+unfoldable pub stop : Said → ℕ
+stop (Goes f n) = 0
+stop (Stops r) = r
+
+unfoldable pub failure : Opened → ℕ
+failure (Table d e n) = 0
+failure (Fails r) = r
+
+-- a frame that meets no refusal, by what is within its rooms
+pub record Ready (f : Frame) (s : Seen) : Type 0 where
+  pub fine : refusal f s ≡ 0
+  pub definitions-fit : s .definitions ≤ 64
+  pub terms-fit : s .terms ≤ term-room
+  pub due-fit : s .due ≤ s .depth + 1
+
+-- the last of the others' path lengths
+unfoldable pub topmost : ℕ → List ℕ → ℕ
+topmost n waiting = choose (eqb n 0) 0 (getD waiting (n - 1) 0)
+
+unfoldable pub owed : ℕ → Seen → List ℕ → Seen
+owed k s waiting = record {
+  definitions = s .definitions;
+  events = s .events;
+  begun = s .begun;
+  terms = s .terms + 1;
+  due = s .due - 1 + subterms k;
+  depth = choose (eqb (subterms k) 0) (topmost (s .due - 1) waiting) (s .depth + 1);
+}
+
+unfoldable pub pushed : ℕ → Seen → List ℕ → List ℕ
+pushed k s waiting = choose (eqb (subterms k) 2) (set waiting (s .due - 1) (s .depth + 1)) waiting
+
+unfoldable pub started : Seen → Seen
+started s = record {
+  definitions = s .definitions;
+  events = s .events;
+  begun = s .begun + 1;
+  terms = s .terms;
+  due = 1;
+  depth = 0;
+}
+
+-- by the frame
+unfoldable pub seen-then : Frame → Seen → List ℕ → Seen
+seen-then Wrong s w = s
+seen-then (Opening ed dd ee) s w = s
+seen-then (Definition n) s w = started s
+seen-then (Term k p) s w = owed k s w
+seen-then (Closing t) s w = s
+
+unfoldable pub waiting-then : Frame → Seen → List ℕ → List ℕ
+waiting-then Wrong s w = w
+waiting-then (Opening ed dd ee) s w = w
+waiting-then (Definition n) s w = w
+waiting-then (Term k p) s w = pushed k s w
+waiting-then (Closing t) s w = w
+
+unfoldable pub roots-then : Frame → Seen → List ℕ → List ℕ
+roots-then Wrong s rs = rs
+roots-then (Opening ed dd ee) s rs = rs
+roots-then (Definition n) s rs = set rs (s .begun) (s .terms)
+roots-then (Term k p) s rs = rs
+roots-then (Closing t) s rs = rs
+
+-- a term's column, with the term's own number of it
+unfoldable pub column-then : (ℕ → ℕ → ℕ) → Frame → Seen → List ℕ → List ℕ
+column-then of Wrong s xs = xs
+column-then of (Opening ed dd ee) s xs = xs
+column-then of (Definition n) s xs = xs
+column-then of (Term k p) s xs = set xs (s .terms) (of k p)
+column-then of (Closing t) s xs = xs

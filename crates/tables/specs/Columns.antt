@@ -1,0 +1,52 @@
+-- Where a checked table goes: a column for each thing that is known of a term, its number in preorder over the whole table, and
+-- one for the definitions' roots. A refused table leaves the columns as they were.
+use Prim.Native.Nat.{ℕ, zero, suc, _-_}
+use mathlib.Core.List.{List, [], _∷_, _++_, map}
+use lib.ListN.{length, getD, set, replicate}
+use Rattle.tables.specs.Kind.{subterms}
+use Rattle.tables.specs.Table.{Item, Sofar, Judged, accepted, refused, term-room}
+use Rattle.tables.specs.declared.Counts.{Counts}
+use Rattle.tables.specs.declared.Checked.{Checked}
+use Rattle.tables.specs.declared.Checked.the-variants.{Accepted, Refused}
+
+-- some numbers in an array of n, zeros behind them
+unfoldable pub column : ℕ → List ℕ → List ℕ
+column n xs = xs ++ replicate (n - length xs) 0
+
+unfoldable pub kinds : Sofar → List ℕ
+kinds s = column term-room (map (λ (i : Item). i .kind) (s .terms))
+
+unfoldable pub payloads : Sofar → List ℕ
+payloads s = column term-room (map (λ (i : Item). i .payload) (s .terms))
+
+-- the definition that each term stands in
+unfoldable pub owners : Sofar → List ℕ
+owners s = column term-room (map (λ (i : Item). i .definition) (s .terms))
+
+-- the number of each definition's root
+unfoldable pub roots : Sofar → List ℕ
+roots s = column 64 (s .roots)
+
+-- the number of the term behind n terms and their subterms, from number j on; `xs` has it for each term alone
+unfoldable pub past : ℕ → ℕ → List ℕ → ℕ
+past zero j xs = j
+past (suc n) j xs = past n (getD xs j 0) xs
+
+-- the number of the term behind each term and its subterms, worked out from the last term to the first
+unfoldable pub walked : ℕ → List ℕ → List ℕ → List ℕ
+walked zero ks xs = xs
+walked (suc i) ks xs = walked i ks (set xs i (past (subterms (getD ks i 0)) (suc i) xs))
+
+unfoldable pub afters : Sofar → List ℕ
+afters s = walked (length (s .terms)) (kinds s) (replicate term-room 0)
+
+-- what a column holds afterwards
+unfoldable pub left : (Sofar → List ℕ) → Judged → List ℕ → List ℕ
+left col (accepted s) old = col s
+left col (refused n l) old = old
+
+-- the answer: the table's counts, or the paper's number of the refusal and its line
+unfoldable pub answer : Judged → Checked
+answer (accepted s) =
+    Accepted (record { definitions = s .definitions; events = s .events; terms = length (s .terms) })
+answer (refused n l) = Refused n l
