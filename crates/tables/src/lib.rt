@@ -2,6 +2,7 @@
 // definition that it stands in and the term behind it, and for each definition its root.
 // It relies on the line finder for where a line ends and what its bytes are.
 mod judging;
+mod taking;
 mod kinds;
 mod reading;
 

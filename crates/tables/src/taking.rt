@@ -3,7 +3,7 @@ use crate::Frame;
 use crate::Seen;
 use crate::kinds::subterms;
 ghost use mathlib.Core.Path.{_≡_};
-ghost use Prim.Native.Nat.{_-_, _<_, _≤_};
+ghost use Prim.Native.Nat.{_+_, _-_, _<_, _≤_};
 ghost use lib.ListN.{set};
 ghost use Rattle.tables.specs.Code.{Ready, topmost, owed, pushed, started, seen-then, waiting-then, roots-then, column-then};
 
