@@ -57,6 +57,7 @@ failure (Fails r) = r
 pub record Ready (f : Frame) (s : Seen) : Type 0 where
   pub fine : refusal f s ≡ 0
   pub definitions-fit : s .definitions ≤ 64
+  pub begun-fit : s .begun ≤ s .definitions
   pub terms-fit : s .terms ≤ term-room
   pub due-fit : s .due ≤ s .depth + 1
 
@@ -64,15 +65,21 @@ pub record Ready (f : Frame) (s : Seen) : Type 0 where
 unfoldable pub topmost : ℕ → List ℕ → ℕ
 topmost n waiting = choose (eqb n 0) 0 (getD waiting (n - 1) 0)
 
+-- with other terms, another number of them due, and another path length of the next
+abbrev pub moved : Seen → ℕ → ℕ → ℕ → Seen
+moved s t d p = record {
+    definitions = s .definitions;
+    events = s .events;
+    begun = s .begun;
+    terms = t;
+    due = d;
+    depth = p;
+  }
+
 unfoldable pub owed : ℕ → Seen → List ℕ → Seen
-owed k s waiting = record {
-  definitions = s .definitions;
-  events = s .events;
-  begun = s .begun;
-  terms = s .terms + 1;
-  due = s .due - 1 + subterms k;
-  depth = choose (eqb (subterms k) 0) (topmost (s .due - 1) waiting) (s .depth + 1);
-}
+owed k s waiting =
+    moved s (s .terms + 1) (s .due - 1 + subterms k)
+    (choose (eqb (subterms k) 0) (topmost (s .due - 1) waiting) (s .depth + 1))
 
 unfoldable pub pushed : ℕ → Seen → List ℕ → List ℕ
 pushed k s waiting = choose (eqb (subterms k) 2) (set waiting (s .due - 1) (s .depth + 1)) waiting

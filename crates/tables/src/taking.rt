@@ -116,5 +116,11 @@ fn last(others: usize, waiting: &[u8; 65]) -> usize
         return 0;
     }
     let at = others - 1;
-    waiting[at] as usize
+    wide(waiting[at])
+}
+
+fn wide(x: u8) -> usize
+    ensures { λ r. ⌜ r ≡ x ⌝ }
+{
+    x as usize
 }

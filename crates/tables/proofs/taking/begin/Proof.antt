@@ -1,3 +1,5 @@
+use mathlib.Core.Path.{refl}
+use Rattle.tables.specs.Code.{started}
 use borrow.Author.Needs.{needs}
 use Rattle.tables.proofs.taking.begin.Statement.{statement}
 use Rattle.tables.proofs.taking.begin.Tie as tie
@@ -10,7 +12,8 @@ add-t2 c = search needs
 
 -- src/taking.rt:54:1
 returns : tie.Need-returns
-returns c = ?
+unfolding started
+returns c = refl
 
 pub begin-spec : {M : Type 1} → statement M
 begin-spec = tie.close (tie.spec add-t2 returns)

@@ -1,0 +1,4 @@
+-- Laws of tables.
+pub mod Fine
+pub mod KindLaws
+pub mod Taken

@@ -1,0 +1,216 @@
+"""The differential run: a proved program and the independent program on the same inputs.
+
+    python3 tests/differential.py [--count N] [--seed S] [--first I] [--program NAME]
+
+It runs target/bin/NAME once for every input, as the kit's rt runs it, and holds what the program prints
+against independent.listing. The first difference ends the run with status 1; what is printed then says how
+to see it again. Without any, one line tells the inputs, the outcomes and the seconds.
+"""
+
+import argparse
+import collections
+import functools
+import itertools
+import multiprocessing
+import os
+import pathlib
+import platform
+import shutil
+import subprocess
+import sys
+import tempfile
+import time
+from typing import NamedTuple
+
+import generate
+import independent
+
+REPOSITORY = pathlib.Path(__file__).resolve().parent.parent
+WORKERS = 2
+INPUTS_AT_A_TIME = 20
+SECONDS_FOR_ONE_INPUT = 30
+SECONDS_BETWEEN_WORDS = 5
+SHORT_INPUT = 1_000  # bytes that are shown as they are
+LINES_SHOWN = 24
+COLUMN = 72
+NOBODY = 65_534
+
+
+# ---- running a program as the kit's rt does
+
+
+class Started(NamedTuple):
+    """How a program is started: the words of the command and the folder it runs in."""
+
+    command: list
+    folder: str
+
+
+def find_toolchain():
+    """The kit's folder for this machine's processor, found through the rt on the PATH."""
+    rt = shutil.which("rt")
+    if rt is None:
+        sys.exit("differential: no rt on the PATH")
+    kit = os.environ.get("RATTLE_HOME") or pathlib.Path(rt).resolve().parent.parent
+    return pathlib.Path(kit) / "on" / platform.machine() / "toolchain"
+
+
+def prepare(program, room):
+    """Puts a copy of the program into the room, outside the repository, and says how to start it there.
+
+    Programs are for x86-64: on another processor the kit has an emulator. Root runs them as nobody.
+    """
+    own, data = room / "own", room / "data"
+    own.mkdir()
+    data.mkdir()
+    copy = own / "program"
+    shutil.copy(program, copy)
+    tools = find_toolchain()
+    emulator = tools / "bin" / "qemu-x86_64"
+    command = [str(emulator)] if os.access(emulator, os.X_OK) else []
+    command += [str(tools / "lib" / "ld-linux-x86-64.so.2"), "--library-path", str(tools / "lib"), str(copy)]
+    if os.getuid() == 0:
+        drop = ["setpriv", f"--reuid={NOBODY}", f"--regid={NOBODY}", "--clear-groups", "--no-new-privs"]
+        command = drop + command
+        room.chmod(0o711)
+        own.chmod(0o755)
+        copy.chmod(0o755)
+        os.chown(data, NOBODY, NOBODY)
+    return Started(command, str(data))
+
+
+class Answer(NamedTuple):
+    """What a program printed, and how it ended where that was not well."""
+
+    output: bytes
+    trouble: str
+
+
+def answer_of(started, given):
+    environment = {name: value for name, value in os.environ.items() if not name.startswith("QEMU_")}
+    try:
+        ended = subprocess.run(
+            started.command,
+            input=given,
+            capture_output=True,
+            cwd=started.folder,
+            env=environment,
+            timeout=SECONDS_FOR_ONE_INPUT,
+            check=False,
+        )
+    except subprocess.TimeoutExpired as expired:
+        return Answer(expired.stdout or b"", f"no end after {SECONDS_FOR_ONE_INPUT} seconds")
+    if ended.returncode != 0:
+        return Answer(ended.stdout, f"status {ended.returncode} {ended.stderr.decode('latin-1')}".strip())
+    return Answer(ended.stdout, "")
+
+
+# ---- comparing
+
+
+class Compared(NamedTuple):
+    index: int
+    outcome: str
+    difference: Answer | None  # the program's answer where it is another one
+
+
+def compare(started, seed, index):
+    given = generate.generate(seed, index)
+    expected = independent.listing(given)
+    answer = answer_of(started, given)
+    return Compared(index, independent.outcome(expected), None if answer == Answer(expected, "") else answer)
+
+
+def compare_all(started, seed, first, count):
+    """Compares input after input; gives the counts of the outcomes and the first difference or None."""
+    outcomes = collections.Counter()
+    began = told = time.monotonic()
+    with multiprocessing.Pool(WORKERS) as pool:
+        one = functools.partial(compare, started, seed)
+        for compared in pool.imap(one, range(first, first + count), INPUTS_AT_A_TIME):
+            if compared.difference is not None:
+                return outcomes, compared
+            outcomes[compared.outcome] += 1
+            if time.monotonic() - told > SECONDS_BETWEEN_WORDS:
+                told = time.monotonic()
+                done = outcomes.total()
+                print(f"{done} of {count} inputs alike, {told - began:.0f} s", file=sys.stderr, flush=True)
+    return outcomes, None
+
+
+# ---- telling
+
+
+def shown_lines(text):
+    return [repr(line.decode("latin-1"))[1:-1] for line in text.split(b"\n")]
+
+
+def column_pair(left, right):
+    """Two lines cut to a column's width around the first character in which they differ."""
+    alike = len(os.path.commonprefix((left, right)))
+    start = max(alike - COLUMN // 2, 0) if max(len(left), len(right)) > COLUMN and left != right else 0
+    return ["..." * (start > 0) + line[start : start + COLUMN - 3] for line in (left, right)]
+
+
+def side_by_side(expected, wrote):
+    """Both outputs in two columns, from a little before the first line in which they differ."""
+    pairs = list(itertools.zip_longest(shown_lines(expected), shown_lines(wrote), fillvalue="(nothing)"))
+    differing = [number for number, (left, right) in enumerate(pairs) if left != right]
+    start = max(differing[0] - 4, 0) if differing else 0
+    rows = [f"  {'line':>5}  {'independent':<{COLUMN}}  program"]
+    for number, (left, right) in enumerate(pairs[start : start + LINES_SHOWN], start):
+        mark = " " if left == right else "!"
+        left, right = column_pair(left, right)
+        rows.append(f"{mark} {number + 1:>5}  {left:<{COLUMN}}  {right}")
+    return "\n".join(rows)
+
+
+def tell_difference(program, seed, compared):
+    """Prints the first difference; the input and both outputs are kept whole in a folder of their own."""
+    given = generate.generate(seed, compared.index)
+    expected = independent.listing(given)
+    answer = compared.difference
+    kept = pathlib.Path(tempfile.mkdtemp(prefix="differential-"))
+    for name, content in (("input", given), ("independent", expected), ("program", answer.output)):
+        (kept / name).write_bytes(content)
+    index, family = compared.index, generate.family_of(compared.index).__name__
+    print(f"DIFFERENT: seed {seed}, index {index}, family {family}")
+    print(f"again: python3 tests/differential.py --program {program} --seed {seed} --first {index} --count 1")
+    print(f"the input, {len(given)} bytes: {kept / 'input'}; both outputs are beside it")
+    if len(given) <= SHORT_INPUT:
+        print("\n".join("    " + line for line in shown_lines(given)))
+    if answer.trouble:
+        print(f"the program ended badly: {answer.trouble}")
+    print(side_by_side(expected, answer.output))
+
+
+def run(program, seed, first, count):
+    """The whole run; gives the exit status."""
+    binary = REPOSITORY / "target" / "bin" / program
+    if not binary.is_file():
+        print(f"differential: there is no target/bin/{program}; `rt check` makes it", file=sys.stderr)
+        return 2
+    began = time.monotonic()
+    with tempfile.TemporaryDirectory() as room:
+        outcomes, different = compare_all(prepare(binary, pathlib.Path(room)), seed, first, count)
+    if different is not None:
+        tell_difference(program, seed, different)
+        return 1
+    counts = ", ".join(f"{outcome} {times}" for outcome, times in sorted(outcomes.items()))
+    seconds = time.monotonic() - began
+    print(f"{program}: {outcomes.total()} inputs, seed {seed}, no difference: {counts}; {seconds:.1f} s")
+    return 0
+
+
+def main():
+    arguments = argparse.ArgumentParser(description="hold a program against the independent program")
+    arguments.add_argument("--count", type=int, default=2_500, help="how many inputs (2500)")
+    arguments.add_argument("--seed", type=int, default=generate.DEFAULT_SEED, help="the seed of all inputs")
+    arguments.add_argument("--first", type=int, default=0, help="the first input's index (0)")
+    arguments.add_argument("--program", default="judge", help="the program in target/bin (judge)")
+    chosen = arguments.parse_args()
+    return run(chosen.program, chosen.seed, chosen.first, chosen.count)
+
+
+if __name__ == "__main__":
+    sys.exit(main())
