@@ -599,8 +599,8 @@ def ended_by_the_characters(rng):
     """
     draft = small_table(rng)
     right = draft.lines[-1]
-    ending = rng.choice((right, right, "1f", "1f0", "1f00", right[:-1], right + "0", right + "00", "1f ", "1fx"))
-    near = rng.choice(("1F" + right[2:], " " + right, "0" + right, "\0" + right, "\r" + right, "1", "12" + right))
+    ending = rng.choice((right, right, "1f", "1f0", "1f00", right[:-1], right + "0", right + "00", "1fx"))
+    near = rng.choice(("1F" + right[2:], " " + right, "0" + right, "\0" + right, "\r" + right, "1"))
     where = rng.choice((len(draft.lines) - 1, rng.randrange(len(draft.lines))))
     before = draft.lines[:where]
     long_script = script_of_length(rng, TABLE_ROOM + rng.randint(0, 100))

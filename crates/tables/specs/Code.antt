@@ -68,13 +68,13 @@ topmost n waiting = choose (eqb n 0) 0 (getD waiting (n - 1) 0)
 -- with other terms, another number of them due, and another path length of the next
 abbrev pub moved : Seen → ℕ → ℕ → ℕ → Seen
 moved s t d p = record {
-    definitions = s .definitions;
-    events = s .events;
-    begun = s .begun;
-    terms = t;
-    due = d;
-    depth = p;
-  }
+  definitions = s .definitions;
+  events = s .events;
+  begun = s .begun;
+  terms = t;
+  due = d;
+  depth = p;
+}
 
 unfoldable pub owed : ℕ → Seen → List ℕ → Seen
 owed k s waiting =

@@ -2,9 +2,10 @@
 // definition that it stands in and the term behind it, and for each definition its root.
 // It relies on the line finder for where a line ends and what its bytes are.
 mod judging;
-mod taking;
 mod kinds;
 mod reading;
+mod taking;
+mod walking;
 
 pub use kinds::payload_bytes;
 pub use kinds::subterms;

@@ -1,0 +1,69 @@
+use Rattle.tables.proofs.walking.walk.Statement.{statement}
+use Rattle.tables.proofs.walking.walk.Tie as tie
+use Rattle.tables.proofs.walking.walk.Reads as reads
+use Rattle.tables.proofs.walking.walk.Lts as lts
+use Rattle.tables.proofs.kinds.subterms.Reads as subterms-reads
+use Rattle.tables.proofs.walking.behind.Reads as behind-reads
+
+abbrev Inv-loop : tie.InvT-loop
+Inv-loop kinds count after₀ i₀ after i = ?
+
+abbrev μ-loop : tie.MeasureT-loop
+μ-loop kinds count after₀ i₀ after i = ?
+
+-- src/walking.rt:14:5
+loop-holds : tie.Need-loop-holds Inv-loop μ-loop
+loop-holds c = ?
+
+-- src/walking.rt:16:9
+sub-i : tie.Need-sub-i Inv-loop μ-loop
+sub-i c = ?
+
+-- src/walking.rt:17:26
+element-copy-out-subterms : tie.Need-element-copy-out-subterms Inv-loop μ-loop
+element-copy-out-subterms c = ?
+
+-- src/walking.rt:17:13
+subterms-requires : tie.Need-subterms-requires Inv-loop μ-loop
+subterms-requires c κs = ?
+
+-- src/walking.rt:18:13
+behind-requires : tie.Need-behind-requires Inv-loop μ-loop
+behind-requires c κs = ?
+
+-- src/walking.rt:19:9
+mul-after : tie.Need-mul-after Inv-loop μ-loop
+mul-after c = ?
+
+-- src/walking.rt:19:9
+element-write-after : tie.Need-element-write-after Inv-loop μ-loop
+element-write-after c = ?
+
+-- src/walking.rt:14:5
+loop-less : tie.Need-loop-less Inv-loop μ-loop
+loop-less c = ?
+
+-- src/walking.rt:14:5
+loop-again : tie.Need-loop-again Inv-loop μ-loop
+loop-again c = ?
+
+-- src/walking.rt:9:1
+returns : tie.Need-returns Inv-loop μ-loop
+returns c = ?
+
+pub walk-spec : {M : Type 1} → statement M
+walk-spec =
+    tie.close
+    (tie.spec
+    Inv-loop
+    μ-loop
+    loop-holds
+    sub-i
+    element-copy-out-subterms
+    subterms-requires
+    behind-requires
+    mul-after
+    element-write-after
+    loop-less
+    loop-again
+    returns)
