@@ -2,13 +2,14 @@
 -- others in the array `waiting`, the last of them first. `proofs/Taking.antt` shows that it is what `taken` says.
 use Prim.Native.Nat.{ℕ, _+_, _-_, _≤_}
 use mathlib.Core.Path.{_≡_}
-use mathlib.Core.List.{List, [], _∷_}
+use mathlib.Core.List.{List, [], _∷_, map}
 use mathlib.Core.Option.{Option, none, some}
 use lib.ListN.{length, getD, set}
+use lib.Seq.{sets}
 use lib.Dec.{eqb}
 use Rattle.lines.specs.Line.{choose, Raw, frame, characters}
 use Rattle.tables.specs.Kind.{subterms}
-use Rattle.tables.specs.Table.{frame-of, first-refusal, refusal, term-room}
+use Rattle.tables.specs.Table.{frame-of, Item, Sofar, first-refusal, refusal, term-room}
 use Rattle.tables.specs.declared.Frame.{Frame}
 use Rattle.tables.specs.declared.Frame.the-variants.{Opening, Definition, Term, Closing, Wrong}
 use Rattle.tables.specs.declared.Seen.{Seen}
@@ -123,3 +124,16 @@ column-then of (Opening ed dd ee) s xs = xs
 column-then of (Definition n) s xs = xs
 column-then of (Term k p) s xs = set xs (s .terms) (of k p)
 column-then of (Closing t) s xs = xs
+
+-- what is said once line 1 has opened a table
+abbrev pub begins : ℕ → ℕ → Sofar
+begins d e = record { definitions = d; events = e; roots = []; terms = []; due = [] }
+
+-- columns that hold a table's terms in front of what they held
+pub record Filled (s : Sofar) (k p o r k₀ p₀ o₀ r₀ : List ℕ) : Type 0 where
+  pub kinds-are : k ≡ sets k₀ 0 (map (λ (i : Item). i .kind) (s .terms))
+  pub payloads-are : p ≡ sets p₀ 0 (map (λ (i : Item). i .payload) (s .terms))
+  pub owners-are : o ≡ sets o₀ 0 (map (λ (i : Item). i .definition) (s .terms))
+  pub roots-are : r ≡ sets r₀ 0 (s .roots)
+  pub terms-fit : length (s .terms) ≤ term-room
+  pub roots-fit : length (s .roots) ≤ 64

@@ -7,19 +7,23 @@ mod reading;
 mod taking;
 mod walking;
 
+use judging::first_line;
+use judging::table_line;
 pub use kinds::payload_bytes;
 pub use kinds::subterms;
 use lines::Line;
 use lines::next_line;
-use lines::refusal_of;
+use taking::take;
+use walking::walk;
 ghost use mathlib.Core.Path.{_≡_};
-ghost use mathlib.Core.List.{List, map};
-ghost use Prim.Native.Nat.{ℕ};
-ghost use lib.ListN.{length, drop};
-ghost use lib.Seq.{sets};
+ghost use Prim.Native.Nat.{_≤_};
+ghost use lib.ListN.{drop};
 ghost use Rattle.lines.specs.Line.{lines};
-ghost use Rattle.tables.specs.Table.{Sofar, Item, Judged, accepted, judged, from-first, rest, behind};
-ghost use Rattle.tables.specs.Columns.{answer, left, kinds, payloads, owners, roots, afters};
+ghost use Rattle.tables.specs.Table as table;
+ghost use Rattle.tables.specs.Table.{Sofar, accepted, judged, seen};
+ghost use Rattle.tables.specs.Columns as columns;
+ghost use Rattle.tables.specs.Columns.{answer, left};
+ghost use Rattle.tables.specs.Code.{stop, failure, begins, Filled};
 
 const TEXT_ROOM: usize = 32768;
 
@@ -77,4 +81,157 @@ pub struct Counts {
 pub enum Checked {
     Accepted(Counts),
     Refused { number: u8, line: usize },
+}
+
+// Checks a table's text. Where it is accepted, the columns hold the table: `kinds`, `payloads` and `owners`, the definition
+// that each term stands in, `after`, the term behind each term and its subterms, and `roots`, each definition's first term;
+// zeros stand behind. A refusal leaves every column as it was.
+pub fn check(
+    text: &[u8],
+    kinds: &mut [u8; 1024],
+    payloads: &mut [u64; 1024],
+    owners: &mut [u8; 1024],
+    after: &mut [u16; 1024],
+    roots: &mut [u16; 64],
+) -> Checked
+    ensures { λ r. ⌜ r ≡ answer (judged (now (text .entry))) ⌝ }
+    ensures { λ _. ⌜ now (kinds .exit) ≡ left columns.kinds (judged (now (text .entry))) (now (kinds .entry)) ⌝ }
+    ensures { λ _. ⌜ now (payloads .exit) ≡ left columns.payloads (judged (now (text .entry))) (now (payloads .entry)) ⌝ }
+    ensures { λ _. ⌜ now (owners .exit) ≡ left columns.owners (judged (now (text .entry))) (now (owners .entry)) ⌝ }
+    ensures { λ _. ⌜ now (after .exit) ≡ left columns.afters (judged (now (text .entry))) (now (after .entry)) ⌝ }
+    ensures { λ _. ⌜ now (roots .exit) ≡ left columns.roots (judged (now (text .entry))) (now (roots .entry)) ⌝ }
+{
+    if TEXT_ROOM < text.len() {
+        return Checked::Refused { number: 6, line: 0 };
+    }
+    let first = first_line(text);
+    let Opened::Table {
+        definitions,
+        events,
+        next,
+    } = first
+    else {
+        return Checked::Refused {
+            number: failure_of(first),
+            line: 1,
+        };
+    };
+    let mut own_kinds = [0u8; 1024];
+    let mut own_payloads = [0u64; 1024];
+    let mut own_owners = [0u8; 1024];
+    let mut own_roots = [0u16; 64];
+    let checked = body(
+        text,
+        next,
+        definitions,
+        events,
+        &mut own_kinds,
+        &mut own_payloads,
+        &mut own_owners,
+        &mut own_roots,
+    );
+    let Checked::Accepted(counts) = checked else {
+        return checked;
+    };
+    let mut own_after = [0u16; 1024];
+    walk(&own_kinds, counts.terms, &mut own_after);
+    *kinds = own_kinds;
+    *payloads = own_payloads;
+    *owners = own_owners;
+    *after = own_after;
+    *roots = own_roots;
+    checked
+}
+
+// The lines behind line 1, from `from` on, into columns of the caller's own.
+fn body(
+    text: &[u8],
+    from: usize,
+    definitions: usize,
+    events: usize,
+    kinds: &mut [u8; 1024],
+    payloads: &mut [u64; 1024],
+    owners: &mut [u8; 1024],
+    roots: &mut [u16; 64],
+) -> Checked
+    requires { ⌜ definitions ≤ 64 ⌝ }
+    ensures { λ r. ⌜ r ≡ answer (table.rest (begins definitions events) 2 (lines (drop from (now (text .entry))))) ⌝ }
+    ensures { λ _. ⌜ ((s : Sofar) → table.rest (begins definitions events) 2 (lines (drop from (now (text .entry)))) ≡ accepted s
+        → Filled s (now (kinds .exit)) (now (payloads .exit)) (now (owners .exit)) (now (roots .exit))
+        (now (kinds .entry)) (now (payloads .entry)) (now (owners .entry)) (now (roots .entry))) ⌝ }
+{
+    let mut waiting = [0u8; 65];
+    let mut s = Seen {
+        definitions,
+        events,
+        begun: 0,
+        terms: 0,
+        due: 0,
+        depth: 0,
+    };
+    let mut at = from;
+    let mut line: usize = 2;
+    loop {
+        let said = table_line(text, at, s);
+        let Said::Goes { frame, next } = said else {
+            return Checked::Refused {
+                number: stop_of(said),
+                line,
+            };
+        };
+        if closes(frame) {
+            return closed(text, next, s, line + 1);
+        }
+        s = take(frame, s, &mut waiting, kinds, payloads, owners, roots);
+        at = next;
+        line += 1;
+    }
+}
+
+// Behind the last line nothing may stand.
+fn closed(text: &[u8], at: usize, s: Seen, line: usize) -> Checked
+    ensures { λ r. ⌜ ((t : Sofar) → s ≡ seen t → r ≡ answer (table.behind t line (lines (drop at (now (text .entry)))))) ⌝ }
+{
+    let found = next_line(text, at);
+    match found {
+        Line::End => Checked::Accepted(Counts {
+            definitions: s.definitions,
+            events: s.events,
+            terms: s.terms,
+        }),
+        Line::NoLine => Checked::Refused { number: 1, line },
+        Line::Found { end: _, next: _ } => Checked::Refused { number: 2, line },
+    }
+}
+
+fn closes(frame: Frame) -> bool
+    ensures { λ r. ⌜ r ≡ table.closes frame ⌝ }
+{
+    if let Frame::Closing(_) = frame {
+        true
+    } else {
+        false
+    }
+}
+
+fn stop_of(said: Said) -> u8
+    ensures { λ r. ⌜ r ≡ stop said ⌝ }
+{
+    match said {
+        Said::Goes { frame: _, next: _ } => 0,
+        Said::Stops(number) => number,
+    }
+}
+
+fn failure_of(first: Opened) -> u8
+    ensures { λ r. ⌜ r ≡ failure first ⌝ }
+{
+    match first {
+        Opened::Table {
+            definitions: _,
+            events: _,
+            next: _,
+        } => 0,
+        Opened::Fails(number) => number,
+    }
 }

@@ -1,3 +1,6 @@
+use mathlib.Core.Path.{sym}
+use native.Mathlib.Omega.{arith}
+use lib.ListN.{List·getD-eq-default}
 use borrow.Author.Needs.{needs}
 use Rattle.tables.proofs.walking.after_of.Statement.{statement}
 use Rattle.tables.proofs.walking.after_of.Tie as tie
@@ -18,7 +21,7 @@ returns c = search needs
 
 -- src/walking.rt:39:1
 returns-2 : tie.Need-returns-2
-returns-2 c = ?
+returns-2 c = sym (List·getD-eq-default (c .before .args .after .now) 0 (omega arith))
 
 pub after-of-spec : {M : Type 1} → statement M
 after-of-spec = tie.close (tie.spec mul-result element-copy-out-result returns returns-2)

@@ -1,3 +1,8 @@
+use mathlib.Core.Path.{_≡_, _∙_, ap, sym}
+use Prim.Native.Nat.{ℕ}
+use lib.ListN.{getD}
+use native.Mathlib.Omega.{arith}
+use Rattle.tables.proofs.Walked.{past-none, past-one, past-two}
 use borrow.Author.Needs.{needs}
 use Rattle.tables.proofs.walking.behind.Statement.{statement}
 use Rattle.tables.proofs.walking.behind.Tie as tie
@@ -11,7 +16,7 @@ cast-result c = search needs
 
 -- src/walking.rt:29:9
 returns : tie.Need-returns
-returns c = ?
+returns c = past-none _ _ _ (c .if1 .taken)
 
 -- src/walking.rt:31:9
 after-of-requires : tie.Need-after-of-requires
@@ -19,7 +24,7 @@ after-of-requires c κs = search needs
 
 -- src/walking.rt:33:9
 returns-2 : tie.Need-returns-2
-returns-2 c = ?
+returns-2 c = c .before .after-of .ensures ∙ past-one _ _ _ (c .if2 .taken)
 
 -- src/walking.rt:35:14
 cast-after-of : tie.Need-cast-after-of
@@ -31,7 +36,7 @@ after-of-requires-2 c κs = search needs
 
 -- src/walking.rt:24:1
 returns-3 : tie.Need-returns-3
-returns-3 c = ?
+returns-3 c = let xs = c .before .before .before .before .args .after .now in c .after-of2 .ensures ∙ ap (λ (j : ℕ). getD xs j 0) (c .before .before .after-of .ensures) ∙ past-two _ _ _ (omega arith)
 
 pub behind-spec : {M : Type 1} → statement M
 behind-spec =

@@ -1,0 +1,123 @@
+-- The loop over a table's lines: what is judged of the whole is what is judged of the lines from the cursor on, by what the loop
+-- keeps. One law for the start, one for each way out and one for a turn. Assumes nothing.
+use Prim.Native.Nat.{ℕ, suc, _+_, _-_, _≤_, _<_}
+use mathlib.Core.Path.{_≡_, refl, sym, ap, _∙_, subst}
+use mathlib.Core.Bool.{Bool, true, false}
+use mathlib.Core.List.{List, [], _∷_}
+use mathlib.Core.Option.{Option, none, some}
+use native.Mathlib.Omega.{arith}
+use lib.ListN.{length, drop, length-replicate, replicate}
+use Rattle.lines.specs.Line.{choose, Raw, frame, lines}
+use Rattle.lines.specs.Line as Line
+use Rattle.lines.specs.declared.Line.the-variants.{Found, NoLine, End}
+use Rattle.lines.proofs.Laws.{IsLine, is-line, NotALine, not-a-line, none-left}
+use Rattle.tables.specs.Table.{Sofar, next-due, seen, refusal, taken, closes, verdict, Judged, accepted, refused, behind, rest}
+use Rattle.tables.specs.Columns.{answer}
+use Rattle.tables.specs.Code.{Ready, said, begins, Filled, seen-then, waiting-then, roots-then, column-then}
+use Rattle.tables.specs.declared.Frame.{Frame}
+use Rattle.tables.specs.declared.Seen.{Seen}
+use Rattle.tables.specs.declared.Said.the-variants.{Goes, Stops}
+use Rattle.tables.specs.declared.Counts.{Counts}
+use Rattle.tables.specs.declared.Checked.{Checked}
+use Rattle.tables.specs.declared.Checked.the-variants.{Accepted, Refused}
+use Rattle.tables.proofs.Kept.{Keeps, ready, keeps-on}
+use Rattle.tables.proofs.Judged.{rest-stops, Went, rest-goes}
+
+-- behind the last line: by what stands at the cursor
+module _ (S : Sofar) (t : List ℕ) (at n : ℕ) where
+  pub behind-end : Line.answer at (lines (drop at t)) ≡ End → accepted S ≡ behind S n (lines (drop at t))
+  unfolding behind
+  behind-end e = rw (none-left t at e)
+
+  pub behind-no-line : Line.answer at (lines (drop at t)) ≡ NoLine → refused 1 n ≡ behind S n (lines (drop at t))
+  unfolding behind verdict
+  behind-no-line e = let b = not-a-line t at e in rw (b .first, b .broken)
+
+  pub behind-line : (e m : ℕ) → Line.answer at (lines (drop at t)) ≡ Found e m → refused 2 n ≡ behind S n (lines (drop at t))
+  unfolding behind verdict
+  behind-line e m h = let b = is-line t at e m h in rw (b .first, b .framed)
+
+-- what is accepted behind the last line is what was said before it
+behind-accepts : (S T : Sofar) (n : ℕ) (ls : List Raw) → behind S n ls ≡ accepted T → S ≡ T
+unfolding behind
+behind-accepts S T n [] e = cc
+behind-accepts S T n (l ∷ ls) e = let z : _≡_ {A = ℕ} 0 1 = cc in absurd (omega arith)
+
+module _ (text : List ℕ) (from d ev : ℕ) (k₀ p₀ o₀ r₀ : List ℕ) where
+  abbrev whole : Judged
+  whole = rest (begins d ev) 2 (lines (drop from text))
+
+  -- what holds at each turn
+  pub record Going (k p o r w : List ℕ) (s : Seen) (at line : ℕ) : Type 0 where
+    pub sofar : Sofar
+    pub keeps : Keeps sofar s w k p o r k₀ p₀ o₀ r₀
+    pub work : whole ≡ rest sofar line (lines (drop at text))
+    pub counted : line ≤ at + 2
+
+  pub going-starts : d ≤ 64 → Going k₀ p₀ o₀ r₀ (replicate 65 0) (record { definitions = d; events = ev; begun = 0; terms = 0; due = 0; depth = 0 }) from 2
+  unfolding seen next-due
+  going-starts h = record {
+    sofar = begins d ev;
+    keeps = record {
+      sees = refl;
+      stacked = tt;
+      long = length-replicate {A = ℕ} 65 0;
+      steep = tt;
+      kinds-are = refl;
+      payloads-are = refl;
+      owners-are = refl;
+      roots-are = refl;
+      definitions-fit = h;
+      begun-fit = omega arith;
+      terms-fit = omega arith;
+    };
+    work = refl;
+    counted = omega arith;
+  }
+
+  module _ (k p o r w : List ℕ) (s : Seen) (at line : ℕ) (g : Going k p o r w s at line) where
+    by-sofar : (x : Rattle.tables.specs.declared.Said.Said) → x ≡ said (λ (f : Frame). refusal f s) at (lines (drop at text))
+      → said (λ (f : Frame). refusal f (seen (g .sofar))) at (lines (drop at text)) ≡ x
+    by-sofar x e = sym (rw (g .keeps .sees) at e)
+
+    pub going-stops : (n : ℕ) → Stops n ≡ said (λ (f : Frame). refusal f s) at (lines (drop at text))
+      → (Refused n line ≡ answer whole) × ((t : Sofar) → whole ≡ accepted t → Filled t k p o r k₀ p₀ o₀ r₀)
+    unfolding answer
+    going-stops n e =
+        let over : whole ≡ refused n line = g .work ∙ rest-stops (g .sofar) text at line n (by-sofar (Stops n) e) in
+        (rw over, λ t q. let z : _≡_ {A = ℕ} 0 1 = cc in absurd (omega arith))
+
+    module _ (f : Frame) (next : ℕ) (e : Goes f next ≡ said (λ (f : Frame). refusal f s) at (lines (drop at text))) where
+      went : Went (g .sofar) text at line f next
+      went = rest-goes (g .sofar) text at line f next (by-sofar (Goes f next) e)
+
+      pub going-on : (at < next) × (next ≤ length text)
+      going-on = (went .on, went .within)
+
+      fine : refusal f s ≡ 0
+      fine = rw (g .keeps .sees) (went .fine)
+
+      pub going-ready : Ready f s
+      going-ready = ready (g .sofar) s w k p o r k₀ p₀ o₀ r₀ (g .keeps) f fine
+
+      pub going-closes : closes f ≡ true → (x : Checked) → ((t : Sofar) → s ≡ seen t → x ≡ answer (behind t (line + 1) (lines (drop next text))))
+        → (x ≡ answer whole) × ((t : Sofar) → whole ≡ accepted t → Filled t k p o r k₀ p₀ o₀ r₀)
+      going-closes c x h =
+          let over : whole ≡ behind (g .sofar) (line + 1) (lines (drop next text)) = g .work ∙ (rw c at (went .then)) in
+          (h (g .sofar) (g .keeps .sees) ∙ ap answer (sym over),
+           λ t q.
+             let same : g .sofar ≡ t = behind-accepts (g .sofar) t (line + 1) (lines (drop next text)) (sym over ∙ q) in
+             let K = g .keeps in
+             subst (λ (u : Sofar). Filled u k p o r k₀ p₀ o₀ r₀) same (record {
+               kinds-are = K .kinds-are; payloads-are = K .payloads-are; owners-are = K .owners-are; roots-are = K .roots-are;
+               terms-fit = K .terms-fit; roots-fit = omega (arith, K .begun-fit, K .definitions-fit) }))
+
+      pub going-again : closes f ≡ false
+        → Going (column-then (λ kk pp. kk) f s k) (column-then (λ kk pp. pp) f s p) (column-then (λ kk pp. s .begun - 1) f s o)
+          (roots-then f s r) (waiting-then f s w) (seen-then f s w) next (line + 1)
+      going-again c = record {
+        sofar = taken (g .sofar) f;
+        keeps = keeps-on (g .sofar) s w k p o r k₀ p₀ o₀ r₀ (g .keeps) f fine c;
+        work = g .work ∙ (rw c at (went .then));
+        counted = omega (arith, g .counted, went .on);
+      }

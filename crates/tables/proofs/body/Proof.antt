@@ -1,0 +1,94 @@
+use Rattle.tables.proofs.body.Statement.{statement}
+use Rattle.tables.proofs.body.Tie as tie
+use Rattle.tables.proofs.body.Reads as reads
+use Rattle.tables.proofs.body.Lts as lts
+use Rattle.tables.proofs.closed.Reads as closed-reads
+use Rattle.tables.proofs.closes.Reads as closes-reads
+use Rattle.tables.proofs.judging.table_line.Reads as table-line-reads
+use Rattle.tables.proofs.stop_of.Reads as stop-of-reads
+use Rattle.tables.proofs.taking.take.Reads as take-reads
+
+abbrev Inv-loop : tie.InvT-loop
+Inv-loop text from definitions events kinds₀ payloads₀ owners₀ roots₀ waiting₀ s₀ at₀ line₀ kinds payloads owners roots waiting s at line =
+    ?
+
+abbrev μ-loop : tie.MeasureT-loop
+μ-loop text from definitions events kinds₀ payloads₀ owners₀ roots₀ waiting₀ s₀ at₀ line₀ kinds payloads owners roots waiting s at line =
+    ?
+
+-- src/lib.rt:174:5
+loop-holds : tie.Need-loop-holds Inv-loop μ-loop
+loop-holds c = ?
+
+-- src/lib.rt:175:13
+table-line-requires : tie.Need-table-line-requires Inv-loop μ-loop
+table-line-requires c κs = ?
+
+-- src/lib.rt:176:26
+enum-known-said : tie.Need-enum-known-said Inv-loop μ-loop
+enum-known-said c = ?
+
+-- src/lib.rt:178:25
+enum-told : tie.Need-enum-told Inv-loop μ-loop
+enum-told c = ?
+
+-- src/lib.rt:178:25
+stop-of-requires : tie.Need-stop-of-requires Inv-loop μ-loop
+stop-of-requires c κs = ?
+
+-- src/lib.rt:177:13
+returns : tie.Need-returns Inv-loop μ-loop
+returns c = ?
+
+-- src/lib.rt:182:12
+closes-requires : tie.Need-closes-requires Inv-loop μ-loop
+closes-requires c κs = ?
+
+-- src/lib.rt:183:42
+add-closed : tie.Need-add-closed Inv-loop μ-loop
+add-closed c = ?
+
+-- src/lib.rt:183:13
+closed-requires : tie.Need-closed-requires Inv-loop μ-loop
+closed-requires c κs = ?
+
+-- src/lib.rt:183:13
+returns-2 : tie.Need-returns-2 Inv-loop μ-loop
+returns-2 c = ?
+
+-- src/lib.rt:185:9
+take-requires : tie.Need-take-requires Inv-loop μ-loop
+take-requires c κs = ?
+
+-- src/lib.rt:187:9
+add-line : tie.Need-add-line Inv-loop μ-loop
+add-line c = ?
+
+-- src/lib.rt:174:5
+loop-less : tie.Need-loop-less Inv-loop μ-loop
+loop-less c = ?
+
+-- src/lib.rt:174:5
+loop-again : tie.Need-loop-again Inv-loop μ-loop
+loop-again c = ?
+
+pub body-spec : {M : Type 1} → statement M
+body-spec =
+    tie.close
+    (tie.spec
+    Inv-loop
+    μ-loop
+    loop-holds
+    table-line-requires
+    enum-known-said
+    enum-told
+    stop-of-requires
+    returns
+    closes-requires
+    add-closed
+    closed-requires
+    returns-2
+    take-requires
+    add-line
+    loop-less
+    loop-again)

@@ -1,0 +1,39 @@
+use borrow.Author.Needs.{needs}
+use Rattle.tables.proofs.closed.Statement.{statement}
+use Rattle.tables.proofs.closed.Tie as tie
+use Rattle.tables.proofs.closed.Reads as reads
+use Rattle.tables.proofs.closed.Lts as lts
+use Rattle.lines.proofs.next_line.Reads as next-line-reads
+
+-- src/lib.rt:195:9
+next-line-requires : tie.Need-next-line-requires
+next-line-requires c κs = search needs
+
+-- src/lib.rt:197:40
+enum-told : tie.Need-enum-told
+enum-told c = search needs
+
+-- src/lib.rt:202:25
+enum-told-2 : tie.Need-enum-told-2
+enum-told-2 c = search needs
+
+-- src/lib.rt:203:44
+enum-told-3 : tie.Need-enum-told-3
+enum-told-3 c = search needs
+
+-- src/lib.rt:192:1
+returns : tie.Need-returns
+returns c = ?
+
+-- src/lib.rt:192:1
+returns-2 : tie.Need-returns-2
+returns-2 c = ?
+
+-- src/lib.rt:192:1
+returns-3 : tie.Need-returns-3
+returns-3 c = ?
+
+pub closed-spec : {M : Type 1} → statement M
+closed-spec =
+    tie.close
+    (tie.spec next-line-requires enum-told enum-told-2 enum-told-3 returns returns-2 returns-3)

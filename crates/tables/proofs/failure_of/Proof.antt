@@ -1,0 +1,24 @@
+use borrow.Author.Needs.{needs}
+use Rattle.tables.proofs.failure_of.Statement.{statement}
+use Rattle.tables.proofs.failure_of.Tie as tie
+use Rattle.tables.proofs.failure_of.Reads as reads
+use Rattle.tables.proofs.failure_of.Lts as lts
+
+-- src/lib.rt:234:14
+enum-told : tie.Need-enum-told
+enum-told c = search needs
+
+-- src/lib.rt:235:23
+enum-known-first : tie.Need-enum-known-first
+enum-known-first c = search needs
+
+-- src/lib.rt:226:1
+returns : tie.Need-returns
+returns c = ?
+
+-- src/lib.rt:226:1
+returns-2 : tie.Need-returns-2
+returns-2 c = ?
+
+pub failure-of-spec : {M : Type 1} → statement M
+failure-of-spec = tie.close (tie.spec enum-told enum-known-first returns returns-2)

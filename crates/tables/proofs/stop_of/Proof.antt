@@ -1,0 +1,24 @@
+use borrow.Author.Needs.{needs}
+use Rattle.tables.proofs.stop_of.Statement.{statement}
+use Rattle.tables.proofs.stop_of.Tie as tie
+use Rattle.tables.proofs.stop_of.Reads as reads
+use Rattle.tables.proofs.stop_of.Lts as lts
+
+-- src/lib.rt:221:45
+enum-told : tie.Need-enum-told
+enum-told c = search needs
+
+-- src/lib.rt:222:21
+enum-known-said : tie.Need-enum-known-said
+enum-known-said c = search needs
+
+-- src/lib.rt:217:1
+returns : tie.Need-returns
+returns c = ?
+
+-- src/lib.rt:217:1
+returns-2 : tie.Need-returns-2
+returns-2 c = ?
+
+pub stop-of-spec : {M : Type 1} → statement M
+stop-of-spec = tie.close (tie.spec enum-told enum-known-said returns returns-2)
