@@ -107,7 +107,7 @@ module _ (s : List ℕ) (at e : ℕ) (inside : at < length s) (end : e ≡ at + 
           rw (line-is, answer-full at (cut .digits) _ (b .0) (cut .are-digits) p (b .1), n)
 
 -- the first line of a text, taken off it
-abbrev First : List ℕ → List ℕ → List Raw → Type 0
+abbrev pub First : List ℕ → List ℕ → List Raw → Type 0
 First t cs ls = (rest : List ℕ) × (t ≡ cs ++ LF ∷ rest) × (ls ≡ lines rest)
 
 before-full : (c : ℕ) (l : List Raw) (cs : List ℕ) (ls : List Raw) → before c l ≡ full cs ∷ ls → (ds : List ℕ) × (cs ≡ c ∷ ds) × (l ≡ full ds ∷ ls)
@@ -116,7 +116,7 @@ before-full c [] cs ls e = let z : _≡_ {A = ℕ} 0 1 = cc in absurd (omega ari
 before-full c (full ds ∷ l) cs ls e = (ds, cc, cc)
 before-full c (open-ended ds ∷ l) cs ls e = let z : _≡_ {A = ℕ} 0 1 = cc in absurd (omega arith)
 
-lines-first : (t cs : List ℕ) (ls : List Raw) → lines t ≡ full cs ∷ ls → First t cs ls
+pub lines-first : (t cs : List ℕ) (ls : List Raw) → lines t ≡ full cs ∷ ls → First t cs ls
 unfolding lines
 lines-first [] cs ls e = let z : _≡_ {A = ℕ} 0 1 = cc in absurd (omega arith)
 lines-first (c ∷ t) cs ls e = go (eqb c LF) refl e (λ ds q. lines-first t ds ls q)
