@@ -1,5 +1,5 @@
--- A text of frames reads back as those frames, and no other text does. A digit and its character determine each other, so bytes
--- and their hexadecimal do, and with them a line and its frame; frames follow one by one. Assumes nothing.
+-- A text of frames reads back as those frames, and no other text does. A digit and its character determine each other,
+-- so bytes and their hexadecimal do, and with them a frame and its line; the text follows line by line. Assumes nothing.
 use Prim.Native.Nat.{ℕ, _<_, _-_, _+_, _*_, _/_, _%_}
 use mathlib.Core.Path.{_≡_, refl, sym, ap, _∙_}
 use mathlib.Core.Bool.{Bool, true, false, _&&_}
@@ -8,8 +8,9 @@ use mathlib.Core.Option.{Option, none, some}
 use native.Mathlib.Omega.{arith}
 use lib.Dec.{leb, ltb, eqb}
 use borrow.Author.Tests.{le-leb, lt-leb, leb-true, leb-false, ltb-true, ltb-false, lt-ltb, le-ltb}
-use Rattle.lines.specs.Line.{choose, digit, character, Raw, full, open-ended, before, lines, pair, bytes, frame, LF}
-use Rattle.lines.specs.Line.{hex, text, Bytes, no-bytes, byte-first, Frames, no-frames, frame-first}
+use Rattle.lines.specs.Line.{choose, digit, character, pair, bytes, hex, LF}
+use Rattle.lines.specs.Line.{Raw, full, open-ended, before, lines, frame, text}
+use Rattle.lines.specs.Line.{Bytes, no-bytes, byte-first, Frames, no-frames, frame-first}
 use Rattle.lines.proofs.Digits.{both, Digits, no-more, one-more, pair-some, lines-full}
 use Rattle.lines.proofs.Laws.{lines-first, bytes-length}
 
@@ -25,7 +26,8 @@ digit-of-character d h = go (ltb d 10) refl
     go false e =
         let l = ltb-false d 10 e in
         let c : ℕ = 87 + d in
-        simp (le-leb 48 c (omega arith), lt-leb c 57 (omega arith), le-leb 97 c (omega arith), le-leb c 102 (omega arith)) (omega arith)
+        let no-decimal = lt-leb c 57 (omega arith) in
+        simp (le-leb 48 c (omega arith), no-decimal, le-leb 97 c (omega arith), le-leb c 102 (omega arith)) (omega arith)
 
 -- a character that is a digit is that digit's
 character-of-digit : (c : ℕ) → digit c < 16 → character (digit c) ≡ c
@@ -75,7 +77,8 @@ bytes-hex (h ∷ l ∷ cs) bs e =
     let r = pair-some (digit h) (digit l) (bytes cs) bs e in
     let u : (digit h * 16 + digit l) / 16 ≡ digit h = omega arith in
     let v : (digit h * 16 + digit l) % 16 ≡ digit l = omega arith in
-    rw (r .2 .2) (simp (u, v, character-of-digit h (r .0), character-of-digit l (r .1)) (ap (λ (x : List ℕ). h ∷ l ∷ x) (bytes-hex cs (r .2 .0) (r .2 .1))))
+    let rest = ap (λ (x : List ℕ). h ∷ l ∷ x) (bytes-hex cs (r .2 .0) (r .2 .1)) in
+    rw (r .2 .2) (simp (u, v, character-of-digit h (r .0), character-of-digit l (r .1)) rest)
 
 -- what is read is bytes
 pub read-bytes : (cs bs : List ℕ) → bytes cs ≡ some bs → Bytes bs
@@ -88,10 +91,12 @@ read-bytes (h ∷ l ∷ cs) bs e =
     rw (r .2 .2) (byte-first p (read-bytes cs (r .2 .0) (r .2 .1)))
 
 -- the first line of a text of frames is the first frame's
-pub written-first : (bs : List ℕ) (fs : List (List ℕ)) → Bytes bs → lines (text (bs ∷ fs)) ≡ full (hex bs) ∷ lines (text fs)
+pub written-first : (bs : List ℕ) (fs : List (List ℕ)) → Bytes bs
+    → lines (text (bs ∷ fs)) ≡ full (hex bs) ∷ lines (text fs)
 unfolding text
 written-first bs fs h = lines-full (hex bs) (text fs) (hex-digits bs h)
 
+-- and has that frame
 pub written-frame : (b : ℕ) (bs : List ℕ) → Bytes (b ∷ bs) → frame (full (hex (b ∷ bs))) ≡ some (b ∷ bs)
 unfolding frame hex
 written-frame b bs h = hex-bytes (b ∷ bs) h
@@ -100,7 +105,8 @@ written-frame b bs h = hex-bytes (b ∷ bs) h
 pub frames-back : (fs : List (List ℕ)) → Frames fs → map frame (lines (text fs)) ≡ map some fs
 unfolding text lines
 frames-back [] no-frames = refl
-frames-back ((b ∷ bs) ∷ fs) (frame-first h t) = simp (written-first (b ∷ bs) fs h, written-frame b bs h, frames-back fs t)
+frames-back ((b ∷ bs) ∷ fs) (frame-first h t) =
+    simp (written-first (b ∷ bs) fs h, written-frame b bs h, frames-back fs t)
 
 -- only the empty text has no lines
 before-some : (c : ℕ) (ls : List Raw) → before c ls ≡ [] → ⊥
@@ -141,7 +147,8 @@ record Framed (bs : List ℕ) (fs : List (List ℕ)) (ls : List Raw) : Type 0 wh
   frames : frame line ≡ some bs
   behind : map frame others ≡ map some fs
 
-framed : (bs : List ℕ) (fs : List (List ℕ)) (ls : List Raw) → map frame ls ≡ map some (bs ∷ fs) → Framed bs fs ls
+framed : (bs : List ℕ) (fs : List (List ℕ)) (ls : List Raw) → map frame ls ≡ map some (bs ∷ fs)
+    → Framed bs fs ls
 framed bs fs [] e = let z : _≡_ {A = ℕ} 0 1 = cc in absurd (omega arith)
 framed bs fs (l ∷ ls) e = record { line = l; others = ls; first = refl; frames = cc; behind = cc }
 
@@ -160,6 +167,7 @@ text-back (bs ∷ fs) t e =
     let m : r .0 ≡ text fs = text-back fs (r .0) (rw (r .2) at (f .behind)) in
     r .1 ∙ ap (λ (x : List ℕ). hex bs ++ LF ∷ x) m
 
+-- what is read is frames
 pub read-frames : (fs : List (List ℕ)) (ls : List Raw) → map frame ls ≡ map some fs → Frames fs
 read-frames [] ls e = no-frames
 read-frames (bs ∷ fs) ls e =
