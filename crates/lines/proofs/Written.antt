@@ -1,13 +1,13 @@
 -- A text of frames reads back as those frames, and no other text does. A digit and its character determine each other,
 -- so bytes and their hexadecimal do, and with them a frame and its line; the text follows line by line. Assumes nothing.
 use Prim.Native.Nat.{ℕ, _<_, _-_, _+_, _*_, _/_, _%_}
-use mathlib.Core.Path.{_≡_, refl, sym, ap, _∙_}
+use mathlib.Core.Path.{_≡_, refl, ap, _∙_}
 use mathlib.Core.Bool.{Bool, true, false, _&&_}
 use mathlib.Core.List.{List, [], _∷_, _++_, map}
-use mathlib.Core.Option.{Option, none, some}
+use mathlib.Core.Option.{some}
 use native.Mathlib.Omega.{arith}
 use lib.Dec.{leb, ltb, eqb}
-use borrow.Author.Tests.{le-leb, lt-leb, leb-true, leb-false, ltb-true, ltb-false, lt-ltb, le-ltb}
+use borrow.Author.Tests.{le-leb, lt-leb, leb-true, ltb-true, ltb-false, lt-ltb, le-ltb}
 use Rattle.lines.specs.Line.{choose, digit, character, pair, bytes, hex, LF}
 use Rattle.lines.specs.Line.{Raw, full, open-ended, before, lines, frame, text}
 use Rattle.lines.specs.Line.{Bytes, no-bytes, byte-first, Frames, no-frames, frame-first}

@@ -1,17 +1,17 @@
 -- A line of a script by its characters: what each test of the code says of what the line asks. The bytes of the
 -- characters are the frame's, so each test is one of `well-formed` or `in-range`. Assumes nothing.
 use Prim.Native.Nat.{ℕ, suc, _≤_, _<_, _-_, _+_, _*_, _/_}
-use mathlib.Core.Path.{_≡_, refl, sym, ap, _∙_}
-use mathlib.Core.Bool.{Bool, true, false, _&&_, and-false}
-use mathlib.Core.List.{List, [], _∷_}
-use mathlib.Core.Option.{Option, none, some}
+use mathlib.Core.Path.{_≡_, sym, ap, _∙_}
+use mathlib.Core.Bool.{Bool, true, false, and-false}
+use mathlib.Core.List.{List, _∷_}
+use mathlib.Core.Option.{some}
 use native.Mathlib.Omega.{arith}
 use native.Mathlib.Numerals.{add-one}
 use lib.ListN.{length, take, drop, getD, set, length-take, length-drop, drop-of-length-le}
-use lib.Dec.{leb, eqb}
+use lib.Dec.{eqb}
 use lib.Seq.{drop-cons, getD-drop, sets}
 use borrow.Author.Tests.{le-leb, lt-leb, eq-eqb, ne-eqb}
-use Rattle.lines.specs.Line.{choose, bytes, number}
+use Rattle.lines.specs.Line.{bytes, number}
 use Rattle.lines.specs.Code.{byteAt, numberOf}
 use Rattle.lines.proofs.Laws.{byte-is, bytes-length, bytes-drop, bytes-take, number-is}
 use Rattle.scripts.specs.Script.{most, digits, well-formed, all-digits, in-range, asked}

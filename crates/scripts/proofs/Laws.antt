@@ -3,7 +3,7 @@
 -- outcome is what the promise's two equations say. Assumes nothing.
 use Prim.Native.Nat.{ℕ, zero, suc, _≤_, _<_, _+_, _*_, _/_, _%_}
 use mathlib.Core.Path.{_≡_, refl, sym, ap, _∙_}
-use mathlib.Core.Bool.{Bool, true, false, _&&_}
+use mathlib.Core.Bool.{true, _&&_}
 use mathlib.Core.List.{List, [], _∷_}
 use mathlib.Core.Option.{some}
 use native.Mathlib.Omega.{arith}
@@ -17,7 +17,7 @@ use Rattle.scripts.specs.declared.Step.{Step}
 use Rattle.scripts.specs.Script.{most, digits, well-formed, all-digits, in-range}
 use Rattle.scripts.specs.Script.{asked, address, answer, left}
 use Rattle.scripts.specs.Code.{refusal}
-use Rattle.scripts.proofs.Steps.{IsStep, is-step}
+use Rattle.scripts.proofs.Steps.{is-step}
 
 -- each is 01 to 04
 abbrev pub Each : List ℕ → Type 0

@@ -1,23 +1,23 @@
 -- The answer at a cursor by what the line finder and the judging say there: no line, a refused line, or a line that
 -- asks for a step. A found line is the first of the script's lines, and its characters stand for the frame that is
 -- judged. Assumes nothing.
-use Prim.Native.Nat.{ℕ, suc, min, _≤_, _<_, _-_, _+_, _*_, _/_}
+use Prim.Native.Nat.{ℕ, _≤_, _-_, _+_, _*_, _/_}
 use mathlib.Core.Path.{_≡_, refl, sym, ap, _∙_}
 use mathlib.Core.Bool.{Bool, true, false, _&&_}
-use mathlib.Core.List.{List, [], _∷_}
-use mathlib.Core.Option.{Option, none, some}
+use mathlib.Core.List.{List, []}
+use mathlib.Core.Option.{some}
 use native.Mathlib.Omega.{arith}
 use lib.ListN.{length, take, drop, getD, length-take, length-drop}
 use lib.Dec.{leb, eqb}
 use borrow.Author.Tests.{leb-true}
-use Rattle.lines.specs.Line.{choose, number, lines, bytes, frame, full, characters, answer as line-at}
+use Rattle.lines.specs.Line.{choose, number, lines, bytes, characters, answer as line-at}
 use Rattle.lines.specs.Code.{part}
 use Rattle.lines.specs.declared.Line.{Line}
 use Rattle.lines.specs.declared.Line.the-variants.{Found, NoLine, End as NoneLeft}
 use Rattle.lines.proofs.Digits.{both}
-use Rattle.lines.proofs.Laws.{IsLine, is-line, NotALine, not-a-line, none-left, part-some, bytes-length}
+use Rattle.lines.proofs.Laws.{IsLine, is-line, not-a-line, none-left, part-some, bytes-length}
 use Rattle.scripts.specs.declared.Step.{Step}
-use Rattle.scripts.specs.declared.Step.the-variants.{Address, Refused, End}
+use Rattle.scripts.specs.declared.Step.the-variants.{Address, Refused}
 use Rattle.scripts.specs.Script.{most, digits, well-formed, all-digits, in-range}
 use Rattle.scripts.specs.Script.{asked, Asked, address, refused, digits-of, told, answer, left}
 use Rattle.scripts.specs.Code.{without-line, refusal}

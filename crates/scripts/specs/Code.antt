@@ -3,7 +3,7 @@ use Prim.Native.Nat.{ℕ}
 use Rattle.lines.specs.declared.Line.{Line}
 use Rattle.lines.specs.declared.Line.the-variants.{Found, NoLine, End as NoneLeft}
 use Rattle.scripts.specs.declared.Step.{Step}
-use Rattle.scripts.specs.declared.Step.the-variants.{Address, Refused, End}
+use Rattle.scripts.specs.declared.Step.the-variants.{Refused, End}
 use Rattle.scripts.specs.Script.{Asked, address, refused}
 
 -- the answer for what stands at the cursor, where that is no line
