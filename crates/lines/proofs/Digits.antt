@@ -14,6 +14,11 @@ use borrow.Author.Tests.{le-leb, lt-leb, leb-true, leb-false, eqb-true, ne-eqb, 
 use Rattle.lines.specs.Line.{choose, digit, Raw, full, open-ended, before, lines, pair, bytes, frame, characters, LF}
 use Rattle.lines.specs.Code.{run}
 
+-- two tests that hold together
+pub both : (a b : Bool) → a && b ≡ true → (a ≡ true) × (b ≡ true)
+both true b e = (refl, e)
+both false b e = let z : _≡_ {A = ℕ} 0 1 = cc in absurd (omega arith)
+
 module _ (s : List ℕ) (i : ℕ) where
   pub run-end : length s ≤ i → run (drop i s) ≡ 0
   unfolding run

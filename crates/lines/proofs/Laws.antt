@@ -5,6 +5,8 @@ use mathlib.Core.Path.{_≡_, refl, sym, ap, _∙_}
 use mathlib.Core.Bool.{Bool, true, false, _&&_}
 use mathlib.Core.List.{List, [], _∷_, _++_, append-nil}
 use mathlib.Core.Option.{Option, none, some}
+use mathlib.Core.Logic.{_⊎_, ⊎-elim}
+use denote.Enum.Declared.{tagOf, declared}
 use native.Mathlib.Omega.{arith}
 use native.Mathlib.Nat.{zero-add, suc-add}
 use lib.ListN.{length, take, drop, getD, length-append, length-drop, drop-of-length-le}
@@ -15,6 +17,7 @@ use Rattle.lines.specs.Line.{choose, digit, Raw, full, open-ended, befor
 use Rattle.lines.specs.Code.{run, part, byteAt, byteOf, numberOf}
 use Rattle.lines.specs.declared.Line.{Line}
 use Rattle.lines.specs.declared.Line.the-variants.{Found, NoLine, End}
+use Rattle.lines.proofs.Line.{enum}
 use Rattle.lines.proofs.Digits.{Digits, Split, split, lines-full, lines-open, lines-start, frame-broken, bytes-even, bytes-odd, pair-some}
 
 -- at the end of the text there is no line left
@@ -107,7 +110,7 @@ module _ (s : List ℕ) (at e : ℕ) (inside : at < length s) (end : e ≡ at + 
           rw (line-is, answer-full at (cut .digits) _ (b .0) (cut .are-digits) p (b .1), n)
 
 -- the first line of a text, taken off it
-abbrev First : List ℕ → List ℕ → List Raw → Type 0
+abbrev pub First : List ℕ → List ℕ → List Raw → Type 0
 First t cs ls = (rest : List ℕ) × (t ≡ cs ++ LF ∷ rest) × (ls ≡ lines rest)
 
 before-full : (c : ℕ) (l : List Raw) (cs : List ℕ) (ls : List Raw) → before c l ≡ full cs ∷ ls → (ds : List ℕ) × (cs ≡ c ∷ ds) × (l ≡ full ds ∷ ls)
@@ -116,7 +119,7 @@ before-full c [] cs ls e = let z : _≡_ {A = ℕ} 0 1 = cc in absurd (omega ari
 before-full c (full ds ∷ l) cs ls e = (ds, cc, cc)
 before-full c (open-ended ds ∷ l) cs ls e = let z : _≡_ {A = ℕ} 0 1 = cc in absurd (omega arith)
 
-lines-first : (t cs : List ℕ) (ls : List Raw) → lines t ≡ full cs ∷ ls → First t cs ls
+pub lines-first : (t cs : List ℕ) (ls : List Raw) → lines t ≡ full cs ∷ ls → First t cs ls
 unfolding lines
 lines-first [] cs ls e = let z : _≡_ {A = ℕ} 0 1 = cc in absurd (omega arith)
 lines-first (c ∷ t) cs ls e = go (eqb c LF) refl e (λ ds q. lines-first t ds ls q)
@@ -225,6 +228,12 @@ module _ (s : List ℕ) (at : ℕ) where
       go [] q h = refl
       go (l ∷ ls) q h = absurd (not-end (characters l) (frame l) h)
 
+-- a line by another variant's tag is not found
+pub not-found : (l : Line) → (tagOf (declared enum) l ≡ 1) ⊎ (tagOf (declared enum) l ≡ 2) → (e n : ℕ) → l ≡ Found e n → ⊥
+not-found l k e n q =
+    let z = ap (tagOf (declared enum)) q in
+    ⊎-elim (λ t. omega arith) (λ t. omega arith) k
+
 -- the part of a text, where there is one and where there is none
 module _ (s : List ℕ) (a e : ℕ) where
   pub part-some : a ≤ e → e ≤ length s → take (e - a) (drop a s) ≡ part s a e
@@ -314,6 +323,21 @@ bytes-drop (h ∷ l ∷ cs) bs (suc k) e =
     let r = pair-some (digit h) (digit l) (bytes cs) bs e in
     let m : 2 * suc k ≡ suc (suc (2 * k)) = omega arith in
     rw (m, r .2 .2) (bytes-drop cs (r .2 .0) k (r .2 .1))
+
+-- the first k bytes are those of the first 2 k characters
+pub bytes-take : (cs bs : List ℕ) (k : ℕ) → bytes cs ≡ some bs → bytes (take (2 * k) cs) ≡ some (take k bs)
+unfolding bytes pair
+bytes-take cs bs zero e = refl
+bytes-take [] bs (suc k) e =
+    let n : bs ≡ [] = cc in
+    let m : 2 * suc k ≡ suc (suc (2 * k)) = omega arith in
+    rw (m, n)
+bytes-take (h ∷ []) bs (suc k) e = let z : _≡_ {A = ℕ} 0 1 = cc in absurd (omega arith)
+bytes-take (h ∷ l ∷ cs) bs (suc k) e =
+    let r = pair-some (digit h) (digit l) (bytes cs) bs e in
+    let m : 2 * suc k ≡ suc (suc (2 * k)) = omega arith in
+    let t = bytes-take cs (r .2 .0) k (r .2 .1) in
+    rw (m, r .2 .2) (simp (t, lt-ltb (digit h) 16 (r .0), lt-ltb (digit l) 16 (r .1)))
 
 -- the largest number that k more bytes can make of n
 most : ℕ → ℕ → ℕ

@@ -1,6 +1,6 @@
 -- Document 01, 'Lines': text is lines of hexadecimal, one frame a line: digits 0-9 a-f, an even count, at least two, LF after
 -- every line; numbers of several bytes are high byte first.
-use Prim.Native.Nat.{ℕ, _+_, _-_, _*_, _/_, _%_}
+use Prim.Native.Nat.{ℕ, _+_, _-_, _*_, _/_, _%_, _<_}
 use mathlib.Core.Bool.{Bool, true, false, _&&_}
 use mathlib.Core.List.{List, [], _∷_, _++_}
 use mathlib.Core.Option.{Option, none, some}
@@ -78,10 +78,20 @@ unfoldable pub hex : List ℕ → List ℕ
 hex [] = []
 hex (b ∷ bs) = character (b / 16) ∷ character (b % 16) ∷ hex bs
 
+-- each is a byte, below 256
+pub data Bytes : List ℕ → Type 0 where
+  no-bytes : Bytes []
+  byte-first : {b : ℕ} {bs : List ℕ} → b < 256 → Bytes bs → Bytes (b ∷ bs)
+
 -- frames as a text, a line each
 unfoldable pub text : List (List ℕ) → List ℕ
 text [] = []
 text (bs ∷ fs) = hex bs ++ LF ∷ text fs
+
+-- each is a frame: bytes, at least one
+pub data Frames : List (List ℕ) → Type 0 where
+  no-frames : Frames []
+  frame-first : {b : ℕ} {bs : List ℕ} {fs : List (List ℕ)} → Bytes (b ∷ bs) → Frames fs → Frames ((b ∷ bs) ∷ fs)
 
 -- the answer for the first of a text's lines, where the text stands from `at` on: where its characters end and where the next
 -- line begins, or that it is none (refusal 1), or that there is no line left

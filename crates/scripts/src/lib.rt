@@ -1,26 +1,132 @@
 // A script's lines: each asks for a step by an address, whose digits go into a lent array.
 // It relies on the line finder for where a line ends and what its bytes are.
 use lines::Line;
+use lines::byte;
 use lines::characters;
 use lines::next_line;
+use lines::number;
 ghost use mathlib.Core.Path.{_≡_};
-ghost use lib.ListN.{drop};
+ghost use mathlib.Core.List.{List};
+ghost use mathlib.Core.Option.{some};
+ghost use Prim.Native.Nat.{ℕ, _≤_};
+ghost use lib.ListN.{length, drop};
 ghost use lib.Seq.{sets};
-ghost use Rattle.lines.specs.Line.{lines};
-ghost use Rattle.scripts.specs.Script.{answer, left};
+ghost use Rattle.lines.specs.Line.{lines, bytes};
+ghost use Rattle.scripts.specs.Script.{most, digits as behind, all-digits, asked, answer, left};
+ghost use Rattle.scripts.specs.Code.{without-line, refusal};
 
-// What the next line of a script asks for: a step, by an address of `count` digits, with the next line from `next` on; the
-// number of the line's refusal; or nothing, at the end of the script.
+// The tag of a script's frame, `20`.
+const STEP: u8 = 32;
+
+// How many bytes stand before the digits: `20 llll`.
+const HEAD: usize = 3;
+
+// The most digits that an address has.
+const MOST: usize = 1024;
+
+// The lowest and the highest digit.
+const LOWEST: u8 = 1;
+
+const HIGHEST: u8 = 4;
+
+// The numbers of the refusals: not a line; wrong frame or length; a number outside its range.
+const NO_LINE: u8 = 1;
+
+const WRONG_FRAME: u8 = 2;
+
+const OUT_OF_RANGE: u8 = 3;
+
+// What the next line of a script asks for: a step, by an address of `count` digits, with the next line from `next`
+// on; the number of the line's refusal; or nothing, at the end of the script.
 pub enum Step {
     Address { count: usize, next: usize },
     Refused(u8),
     End,
 }
 
-// The next line of a script from a cursor. Its digits go to the front of `digits`; a refusal leaves the array as it was.
+// The next line of a script from a cursor. Its digits go to the front of `digits`; a refusal leaves the array as it
+// was.
 pub fn next_step(text: &[u8], at: usize, digits: &mut [u8; 1024]) -> Step
     ensures { λ r. ⌜ r ≡ answer at (lines (drop at (now (text .entry)))) ⌝ }
     ensures { λ _. ⌜ now (digits .exit) ≡ sets (now (digits .entry)) 0 (left (lines (drop at (now (text .entry))))) ⌝ }
 {
-    Step::End
+    let line = next_line(text, at);
+    let Line::Found { end, next } = line else {
+        return no_step(line);
+    };
+    let chars = characters(text, at, end);
+    let refused = judge(chars);
+    if refused != 0 {
+        return Step::Refused(refused);
+    }
+    let count = chars.len() / 2 - HEAD;
+    write_digits(chars, count, digits);
+    Step::Address { count, next }
+}
+
+// The answer where no line stands at the cursor.
+fn no_step(line: Line) -> Step
+    ensures { λ r. ⌜ r ≡ without-line line ⌝ }
+{
+    match line {
+        Line::Found { end: _, next: _ } => Step::End,
+        Line::NoLine => Step::Refused(NO_LINE),
+        Line::End => Step::End,
+    }
+}
+
+// The number of the refusal of a line by its characters, 0 where it asks for a step.
+fn judge(chars: &[u8]) -> u8
+    ensures { λ r. ⌜ ((bs : List ℕ) → bytes (now (chars .entry)) ≡ some bs → r ≡ refusal (asked (some bs))) ⌝ }
+{
+    let n = chars.len() / 2;
+    if n < HEAD {
+        return WRONG_FRAME;
+    }
+    if byte(chars, 0) != STEP {
+        return WRONG_FRAME;
+    }
+    let count = n - HEAD;
+    if number(&chars[2..6]) != count as u64 {
+        return WRONG_FRAME;
+    }
+    if MOST < count {
+        return OUT_OF_RANGE;
+    }
+    if !digits_fit(chars) {
+        return OUT_OF_RANGE;
+    }
+    0
+}
+
+// Whether each byte behind `20 llll` is a digit of an address.
+fn digits_fit(chars: &[u8]) -> bool
+    ensures { λ r. ⌜ ((bs : List ℕ) → bytes (now (chars .entry)) ≡ some bs → r ≡ all-digits (behind bs)) ⌝ }
+{
+    let n = chars.len() / 2;
+    let mut k = HEAD;
+    while k < n {
+        let digit = byte(chars, k);
+        if digit < LOWEST {
+            return false;
+        }
+        if HIGHEST < digit {
+            return false;
+        }
+        k += 1;
+    }
+    true
+}
+
+// The digits of a line that has `count` of them, at the front of the array.
+fn write_digits(chars: &[u8], count: usize, digits: &mut [u8; 1024])
+    requires { ⌜ count ≤ most ⌝ }
+    ensures { λ _. ⌜ ((bs : List ℕ) → bytes (now (chars .entry)) ≡ some bs → length (behind bs) ≡ count
+        → now (digits .exit) ≡ sets (now (digits .entry)) 0 (behind bs)) ⌝ }
+{
+    let mut i = 0;
+    while i < count {
+        digits[i] = byte(chars, i + HEAD);
+        i += 1;
+    }
 }

@@ -1,41 +1,32 @@
+-- `lines::byte` meets its contract: where the characters have byte number k, both of its characters can be read and
+-- `byte_of` makes the byte of them; where they do not, both sides are 0. Assumes nothing.
 use mathlib.Core.Path.{_∙_}
 use Rattle.lines.proofs.Laws.{byte-some, byte-none}
 use borrow.Author.Needs.{needs}
 use Rattle.lines.proofs.byte.Statement.{statement}
 use Rattle.lines.proofs.byte.Tie as tie
-use Rattle.lines.proofs.byte.Reads as reads
-use Rattle.lines.proofs.byte.Lts as lts
-use Rattle.lines.proofs.byte_of.Reads as byte-of-reads
 
--- src/lib.rt:110:9
 returns : tie.Need-returns
 returns c = byte-none _ _ (c .if1 .taken)
 
--- src/lib.rt:112:19
 mul-byte-of : tie.Need-mul-byte-of
 mul-byte-of c = search needs
 
--- src/lib.rt:112:13
 shared-slice-read-byte-of : tie.Need-shared-slice-read-byte-of
 shared-slice-read-byte-of c = search needs
 
--- src/lib.rt:112:33
 mul-byte-of-2 : tie.Need-mul-byte-of-2
 mul-byte-of-2 c = search needs
 
--- src/lib.rt:112:33
 add-byte-of : tie.Need-add-byte-of
 add-byte-of c = search needs
 
--- src/lib.rt:112:27
 shared-slice-read-byte-of-2 : tie.Need-shared-slice-read-byte-of-2
 shared-slice-read-byte-of-2 c = search needs
 
--- src/lib.rt:112:5
 byte-of-requires : tie.Need-byte-of-requires
 byte-of-requires c κs = search needs
 
--- src/lib.rt:106:1
 returns-2 : tie.Need-returns-2
 returns-2 c = c .byte-of .ensures ∙ byte-some _ _ (c .before .before .before .if1 .left)
 

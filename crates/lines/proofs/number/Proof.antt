@@ -1,5 +1,7 @@
-use Prim.Native.Nat.{ℕ, _≤_, _-_, _*_, _/_}
-use mathlib.Core.Path.{_≡_, _∙_, sym, refl}
+-- `lines::number` meets its contract. The loop's invariant: what was read, and then the characters from 2 k on, make the
+-- number of all the characters. The measure is how many bytes are left. Assumes nothing.
+use Prim.Native.Nat.{_≤_, _-_, _*_, _/_}
+use mathlib.Core.Path.{_≡_, _∙_, sym}
 use borrow.Author.Needs.{needs}
 use native.Mathlib.Omega.{arith}
 use lib.ListN.{length, drop}
@@ -7,65 +9,50 @@ use Rattle.lines.specs.Code.{numberOf}
 use Rattle.lines.proofs.Laws.{number-more, number-end}
 use Rattle.lines.proofs.number.Statement.{statement}
 use Rattle.lines.proofs.number.Tie as tie
-use Rattle.lines.proofs.number.Reads as reads
-use Rattle.lines.proofs.number.Lts as lts
-use Rattle.lines.proofs.byte_of.Reads as byte-of-reads
 
 abbrev Inv-loop : tie.InvT-loop
-Inv-loop chars n number₀ k₀ number k = (n ≡ length chars / 2) × (k ≤ n) × (numberOf number (drop (2 * k) chars) ≡ numberOf 0 chars)
+Inv-loop chars n number₀ k₀ number k =
+    (n ≡ length chars / 2) × (k ≤ n) × (numberOf number (drop (2 * k) chars) ≡ numberOf 0 chars)
 
 abbrev μ-loop : tie.MeasureT-loop
 μ-loop chars n number₀ k₀ number k = n - k
 
--- src/lib.rt:122:5
 loop-holds : tie.Need-loop-holds Inv-loop μ-loop
 loop-holds c = search needs
 
--- src/lib.rt:123:18
 mul-number : tie.Need-mul-number Inv-loop μ-loop
 mul-number c = search needs
 
--- src/lib.rt:123:61
 mul-byte-of : tie.Need-mul-byte-of Inv-loop μ-loop
 mul-byte-of c = search needs
 
--- src/lib.rt:123:55
 shared-slice-read-byte-of : tie.Need-shared-slice-read-byte-of Inv-loop μ-loop
 shared-slice-read-byte-of c = search needs
 
--- src/lib.rt:123:75
 mul-byte-of-2 : tie.Need-mul-byte-of-2 Inv-loop μ-loop
 mul-byte-of-2 c = search needs
 
--- src/lib.rt:123:75
 add-byte-of : tie.Need-add-byte-of Inv-loop μ-loop
 add-byte-of c = search needs
 
--- src/lib.rt:123:69
 shared-slice-read-byte-of-2 : tie.Need-shared-slice-read-byte-of-2 Inv-loop μ-loop
 shared-slice-read-byte-of-2 c = search needs
 
--- src/lib.rt:123:47
 byte-of-requires : tie.Need-byte-of-requires Inv-loop μ-loop
 byte-of-requires c κs = search needs
 
--- src/lib.rt:123:47
 cast-number : tie.Need-cast-number Inv-loop μ-loop
 cast-number c = search needs
 
--- src/lib.rt:123:18
 add-number : tie.Need-add-number Inv-loop μ-loop
 add-number c = search needs
 
--- src/lib.rt:124:9
 add-k : tie.Need-add-k Inv-loop μ-loop
 add-k c = search needs
 
--- src/lib.rt:122:5
 loop-less : tie.Need-loop-less Inv-loop μ-loop
 loop-less c = search needs
 
--- src/lib.rt:122:5
 loop-again : tie.Need-loop-again Inv-loop μ-loop
 loop-again c =
     let l = c .before .before .before .before .loop in
@@ -73,7 +60,6 @@ loop-again c =
     let turn = number-more cs (l .k) (l .number) (omega arith) in
     (l .inv .0, omega arith, rw (c .byte-of .ensures) (sym turn ∙ l .inv .2))
 
--- src/lib.rt:116:1
 returns : tie.Need-returns Inv-loop μ-loop
 returns c =
     let l = c .before .loop in
