@@ -13,7 +13,7 @@ use Rattle.lines.specs.Line as Line
 use Rattle.lines.specs.declared.Line.the-variants.{Found, NoLine, End}
 use Rattle.lines.proofs.Laws.{IsLine, is-line}
 use Rattle.tables.specs.Table.{Sofar, seen, frame-of, refusal, first-refusal, taken, unopened, closes, held, verdict, Judged, accepted, refused, behind, rest, from-first}
-use Rattle.tables.specs.Code.{heard, said, opens, opened-by, opened}
+use Rattle.tables.specs.Code.{heard, said, stop, opens, opened-by, opened}
 use Rattle.tables.specs.declared.Frame.{Frame}
 use Rattle.tables.specs.declared.Frame.the-variants.{Opening, Definition, Term, Closing, Wrong}
 use Rattle.tables.specs.declared.Said.{Said}
@@ -58,6 +58,11 @@ heard-stops r n (some bs) k e = go (eqb (r (frame-of bs)) 0) refl e
     go : (b : Bool) → eqb (r (frame-of bs)) 0 ≡ b → choose b (Goes (frame-of bs) n) (Stops (r (frame-of bs))) ≡ Stops k → (r (frame-of bs) ≡ k) × (b ≡ false)
     go true q e = let z : _≡_ {A = ℕ} 0 1 = cc in absurd (omega arith)
     go false q e = (cc, refl)
+
+-- the number that a line stops with is the one told
+pub stops-is : (x : Said) (v n : ℕ) → x ≡ Stops v → n ≡ stop x → Stops n ≡ x
+unfolding stop
+stops-is x v n e q = ap Stops (q ∙ ap stop e) ∙ sym e
 
 module _ (S : Sofar) (t : List ℕ) (at n : ℕ) where
   -- a line that meets a refusal ends the work

@@ -37,6 +37,13 @@ module _ (S : Sofar) (t : List ℕ) (at n : ℕ) where
   unfolding behind verdict
   behind-line e m h = let b = is-line t at e m h in rw (b .first, b .framed)
 
+-- the answer for a table that is accepted
+pub answer-accepted : (t : Sofar) (s : Seen) → s ≡ seen t
+  → Accepted (record { definitions = s .definitions; events = s .events; terms = s .terms }) ≡ answer (accepted t)
+unfolding answer seen
+answer-accepted t s e =
+    ap (λ (u : Seen). Accepted (record { definitions = u .definitions; events = u .events; terms = u .terms })) e
+
 -- what is accepted behind the last line is what was said before it
 behind-accepts : (S T : Sofar) (n : ℕ) (ls : List Raw) → behind S n ls ≡ accepted T → S ≡ T
 unfolding behind
@@ -112,7 +119,7 @@ module _ (text : List ℕ) (from d ev : ℕ) (k₀ p₀ o₀ r₀ : List ℕ) wh
                kinds-are = K .kinds-are; payloads-are = K .payloads-are; owners-are = K .owners-are; roots-are = K .roots-are;
                terms-fit = K .terms-fit; roots-fit = omega (arith, K .begun-fit, K .definitions-fit) }))
 
-      pub going-again : closes f ≡ false
+      going-again : closes f ≡ false
         → Going (column-then (λ kk pp. kk) f s k) (column-then (λ kk pp. pp) f s p) (column-then (λ kk pp. s .begun - 1) f s o)
           (roots-then f s r) (waiting-then f s w) (seen-then f s w) next (line + 1)
       going-again c = record {
@@ -121,3 +128,8 @@ module _ (text : List ℕ) (from d ev : ℕ) (k₀ p₀ o₀ r₀ : List ℕ) wh
         work = g .work ∙ (rw c at (went .then));
         counted = omega (arith, g .counted, went .on);
       }
+
+      pub going-turn : closes f ≡ false → (k′ p′ o′ r′ w′ : List ℕ) (s′ : Seen) → s′ ≡ seen-then f s w → w′ ≡ waiting-then f s w
+        → k′ ≡ column-then (λ kk pp. kk) f s k → p′ ≡ column-then (λ kk pp. pp) f s p
+        → o′ ≡ column-then (λ kk pp. s .begun - 1) f s o → r′ ≡ roots-then f s r → Going k′ p′ o′ r′ w′ s′ next (line + 1)
+      going-turn c k′ p′ o′ r′ w′ s′ e₁ e₂ e₃ e₄ e₅ e₆ = rw (e₁, e₂, e₃, e₄, e₅, e₆) (going-again c)

@@ -1,3 +1,7 @@
+use mathlib.Core.Path.{sym, ap, _∙_}
+use Rattle.tables.specs.Columns.{answer}
+use Rattle.tables.specs.Table.{seen}
+use Rattle.tables.proofs.Loop.{answer-accepted, behind-end, behind-no-line, behind-line}
 use borrow.Author.Needs.{needs}
 use Rattle.tables.proofs.closed.Statement.{statement}
 use Rattle.tables.proofs.closed.Tie as tie
@@ -23,15 +27,17 @@ enum-told-3 c = search needs
 
 -- src/lib.rt:192:1
 returns : tie.Need-returns
-returns c = ?
+returns c = λ t e. answer-accepted t _ e ∙ ap answer (behind-end t _ _ _ (sym (c .before .before .next-line .ensures) ∙ c .enum-told .given .1))
 
 -- src/lib.rt:192:1
 returns-2 : tie.Need-returns-2
-returns-2 c = ?
+unfolding answer
+returns-2 c = λ t e. ap answer (behind-no-line t _ _ _ (sym (c .before .before .next-line .ensures) ∙ c .enum-told2 .given .1))
 
 -- src/lib.rt:192:1
 returns-3 : tie.Need-returns-3
-returns-3 c = ?
+unfolding answer
+returns-3 c = λ t e. ap answer (behind-line t _ _ _ _ _ (sym (c .before .before .next-line .ensures) ∙ c .enum-told3 .given .1))
 
 pub closed-spec : {M : Type 1} → statement M
 closed-spec =

@@ -1,3 +1,5 @@
+use mathlib.Core.Path.{sym, ap}
+use Rattle.tables.specs.Code.{failure}
 use borrow.Author.Needs.{needs}
 use Rattle.tables.proofs.failure_of.Statement.{statement}
 use Rattle.tables.proofs.failure_of.Tie as tie
@@ -14,11 +16,13 @@ enum-known-first c = search needs
 
 -- src/lib.rt:226:1
 returns : tie.Need-returns
-returns c = ?
+unfolding failure
+returns c = sym (ap failure (c .enum-told .given .1))
 
 -- src/lib.rt:226:1
 returns-2 : tie.Need-returns-2
-returns-2 c = ?
+unfolding failure
+returns-2 c = sym (ap failure (c .before .first .given .1))
 
 pub failure-of-spec : {M : Type 1} → statement M
 failure-of-spec = tie.close (tie.spec enum-told enum-known-first returns returns-2)

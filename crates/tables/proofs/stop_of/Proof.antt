@@ -1,3 +1,5 @@
+use mathlib.Core.Path.{sym, ap}
+use Rattle.tables.specs.Code.{stop}
 use borrow.Author.Needs.{needs}
 use Rattle.tables.proofs.stop_of.Statement.{statement}
 use Rattle.tables.proofs.stop_of.Tie as tie
@@ -14,11 +16,13 @@ enum-known-said c = search needs
 
 -- src/lib.rt:217:1
 returns : tie.Need-returns
-returns c = ?
+unfolding stop
+returns c = sym (ap stop (c .enum-told .given .1))
 
 -- src/lib.rt:217:1
 returns-2 : tie.Need-returns-2
-returns-2 c = ?
+unfolding stop
+returns-2 c = sym (ap stop (c .before .said .given .1))
 
 pub stop-of-spec : {M : Type 1} → statement M
 stop-of-spec = tie.close (tie.spec enum-told enum-known-said returns returns-2)
