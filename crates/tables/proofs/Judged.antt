@@ -26,7 +26,7 @@ pub record Onward (t : List ℕ) (at next : ℕ) (ls : List Raw) : Type 0 where
   pub within : next ≤ length t
   pub behind-it : ls ≡ lines (drop next t)
 
-onward : (t : List ℕ) (at : ℕ) (l : Raw) (ls : List Raw) (bs : List ℕ) → lines (drop at t) ≡ l ∷ ls → frame l ≡ some bs
+pub onward : (t : List ℕ) (at : ℕ) (l : Raw) (ls : List Raw) (bs : List ℕ) → lines (drop at t) ≡ l ∷ ls → frame l ≡ some bs
     → Onward t at (at + length (characters l) + 1) ls
 unfolding Line.answer Line.seen
 onward t at l ls bs q e =

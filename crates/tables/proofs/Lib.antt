@@ -6,3 +6,4 @@ pub mod Kept
 pub mod Loop
 pub mod Taken
 pub mod Walked
+pub mod Whole
