@@ -39,7 +39,7 @@ module _ (S : Sofar) (t : List ℕ) (at n : ℕ) where
 
 -- the answer for a table that is accepted
 pub answer-accepted : (t : Sofar) (s : Seen) → s ≡ seen t
-  → Accepted (record { definitions = s .definitions; events = s .events; terms = s .terms }) ≡ answer (accepted t)
+    → Accepted (record { definitions = s .definitions; events = s .events; terms = s .terms }) ≡ answer (accepted t)
 unfolding answer seen
 answer-accepted t s e =
     ap (λ (u : Seen). Accepted (record { definitions = u .definitions; events = u .events; terms = u .terms })) e
@@ -84,11 +84,11 @@ module _ (text : List ℕ) (from d ev : ℕ) (k₀ p₀ o₀ r₀ : List ℕ) wh
 
   module _ (k p o r w : List ℕ) (s : Seen) (at line : ℕ) (g : Going k p o r w s at line) where
     by-sofar : (x : Rattle.tables.specs.declared.Said.Said) → x ≡ said (λ (f : Frame). refusal f s) at (lines (drop at text))
-      → said (λ (f : Frame). refusal f (seen (g .sofar))) at (lines (drop at text)) ≡ x
+        → said (λ (f : Frame). refusal f (seen (g .sofar))) at (lines (drop at text)) ≡ x
     by-sofar x e = sym (rw (g .keeps .sees) at e)
 
     pub going-stops : (n : ℕ) → Stops n ≡ said (λ (f : Frame). refusal f s) at (lines (drop at text))
-      → (Refused n line ≡ answer whole) × ((t : Sofar) → whole ≡ accepted t → Filled t k p o r k₀ p₀ o₀ r₀)
+        → (Refused n line ≡ answer whole) × ((t : Sofar) → whole ≡ accepted t → Filled t k p o r k₀ p₀ o₀ r₀)
     unfolding answer
     going-stops n e =
         let over : whole ≡ refused n line = g .work ∙ rest-stops (g .sofar) text at line n (by-sofar (Stops n) e) in
@@ -108,19 +108,25 @@ module _ (text : List ℕ) (from d ev : ℕ) (k₀ p₀ o₀ r₀ : List ℕ) wh
       going-ready = ready (g .sofar) s w k p o r k₀ p₀ o₀ r₀ (g .keeps) f fine
 
       pub going-closes : closes f ≡ true → (x : Checked) → ((t : Sofar) → s ≡ seen t → x ≡ answer (behind t (line + 1) (lines (drop next text))))
-        → (x ≡ answer whole) × ((t : Sofar) → whole ≡ accepted t → Filled t k p o r k₀ p₀ o₀ r₀)
+          → (x ≡ answer whole) × ((t : Sofar) → whole ≡ accepted t → Filled t k p o r k₀ p₀ o₀ r₀)
       going-closes c x h =
-          let over : whole ≡ behind (g .sofar) (line + 1) (lines (drop next text)) = g .work ∙ (rw c at (went .then)) in
-          (h (g .sofar) (g .keeps .sees) ∙ ap answer (sym over),
-           λ t q.
-             let same : g .sofar ≡ t = behind-accepts (g .sofar) t (line + 1) (lines (drop next text)) (sym over ∙ q) in
-             let K = g .keeps in
-             subst (λ (u : Sofar). Filled u k p o r k₀ p₀ o₀ r₀) same (record {
-               kinds-are = K .kinds-are; payloads-are = K .payloads-are; owners-are = K .owners-are; roots-are = K .roots-are;
-               terms-fit = K .terms-fit; roots-fit = omega (arith, K .begun-fit, K .definitions-fit) }))
+          let over : whole ≡ behind (g .sofar) (line + 1) (lines (drop next text)) = g .work ∙ (rw c at (went .then)) in (
+            h (g .sofar) (g .keeps .sees) ∙ ap answer (sym over),
+            λ t q.
+                let same : g .sofar ≡ t = behind-accepts (g .sofar) t (line + 1) (lines (drop next text)) (sym over ∙ q) in
+                let K = g .keeps in
+                subst (λ (u : Sofar). Filled u k p o r k₀ p₀ o₀ r₀) same (record {
+                  kinds-are = K .kinds-are;
+                  payloads-are = K .payloads-are;
+                  owners-are = K .owners-are;
+                  roots-are = K .roots-are;
+                  terms-fit = K .terms-fit;
+                  roots-fit = omega (arith, K .begun-fit, K .definitions-fit);
+                }),
+          )
 
       going-again : closes f ≡ false
-        → Going (column-then (λ kk pp. kk) f s k) (column-then (λ kk pp. pp) f s p) (column-then (λ kk pp. s .begun - 1) f s o)
+          → Going (column-then (λ kk pp. kk) f s k) (column-then (λ kk pp. pp) f s p) (column-then (λ kk pp. s .begun - 1) f s o)
           (roots-then f s r) (waiting-then f s w) (seen-then f s w) next (line + 1)
       going-again c = record {
         sofar = taken (g .sofar) f;
@@ -130,6 +136,6 @@ module _ (text : List ℕ) (from d ev : ℕ) (k₀ p₀ o₀ r₀ : List ℕ) wh
       }
 
       pub going-turn : closes f ≡ false → (k′ p′ o′ r′ w′ : List ℕ) (s′ : Seen) → s′ ≡ seen-then f s w → w′ ≡ waiting-then f s w
-        → k′ ≡ column-then (λ kk pp. kk) f s k → p′ ≡ column-then (λ kk pp. pp) f s p
-        → o′ ≡ column-then (λ kk pp. s .begun - 1) f s o → r′ ≡ roots-then f s r → Going k′ p′ o′ r′ w′ s′ next (line + 1)
+          → k′ ≡ column-then (λ kk pp. kk) f s k → p′ ≡ column-then (λ kk pp. pp) f s p
+          → o′ ≡ column-then (λ kk pp. s .begun - 1) f s o → r′ ≡ roots-then f s r → Going k′ p′ o′ r′ w′ s′ next (line + 1)
       going-turn c k′ p′ o′ r′ w′ s′ e₁ e₂ e₃ e₄ e₅ e₆ = rw (e₁, e₂, e₃, e₄, e₅, e₆) (going-again c)

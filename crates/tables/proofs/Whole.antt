@@ -37,8 +37,9 @@ opens-table (Opening ed dd ee) next d e n q = go (eqb ed 1) (leb 1 dd) (leb dd 6
   where
     out : {A : Type 0} → Fails 3 ≡ Table d e n → A
     out q = let z : _≡_ {A = ℕ} 0 1 = cc in absurd (omega arith)
+
     go : (w x y z : Bool) → leb dd 64 ≡ y → choose (eqb (choose (w && (x && (y && z))) 0 3) 0) (Table dd ee next) (Fails 3) ≡ Table d e n
-      → ((_≡_ {A = ℕ} (choose (w && (x && (y && z))) 0 3) 0) × (begins dd ee ≡ begins d e) × (d ≤ 64)) × (next ≡ n)
+        → ((_≡_ {A = ℕ} (choose (w && (x && (y && z))) 0 3) 0) × (begins dd ee ≡ begins d e) × (d ≤ 64)) × (next ≡ n)
     go true true true true f q =
         let a : dd ≡ d = cc in
         let b : ee ≡ e = cc in
@@ -70,13 +71,14 @@ unfolding opened opened-by
 table-opens t d e n q = go (lines t) refl q
   where
     by-frame : (l : Raw) (ls : List Raw) (o : Option (List ℕ)) → lines t ≡ l ∷ ls → frame l ≡ o → opened-by (length (characters l) + 1) o ≡ Table d e n
-      → (from-first (l ∷ ls) ≡ rest (begins d e) 2 (lines (drop n t))) × (d ≤ 64)
+        → (from-first (l ∷ ls) ≡ rest (begins d e) 2 (lines (drop n t))) × (d ≤ 64)
     by-frame l ls none w f q = let z : _≡_ {A = ℕ} 0 1 = cc in absurd (omega arith)
     by-frame l ls (some bs) w f q =
         let r = opens-table (frame-of bs) (length (characters l) + 1) d e n q in
         let o = onward t 0 l ls bs w f in
         let m : 0 + length (characters l) + 1 ≡ n = omega (arith, r .1) in
         (first-opens l ls bs d e f (r .0) ∙ ap (rest (begins d e) 2) (o .behind-it ∙ ap (λ (j : ℕ). lines (drop j t)) m), r .0 .2)
+
     go : (ls : List Raw) → lines t ≡ ls → opened ls ≡ Table d e n → (from-first ls ≡ rest (begins d e) 2 (lines (drop n t))) × (d ≤ 64)
     go [] w q = let z : _≡_ {A = ℕ} 0 1 = cc in absurd (omega arith)
     go (l ∷ ls) w q = by-frame l ls (frame l) w refl q
@@ -121,7 +123,7 @@ answer-accepts (refused m k) c e = let z : _≡_ {A = ℕ} 0 1 = cc in absurd (o
 
 -- a refusal leaves the columns as they were
 pub refuses : (t : List ℕ) (n l : ℕ) (k p o a r : List ℕ) → judged t ≡ refused n l
-  → (Refused n l ≡ answer (judged t)) × ((k ≡ left kinds (judged t) k) × ((p ≡ left payloads (judged t) p)
+    → (Refused n l ≡ answer (judged t)) × ((k ≡ left kinds (judged t) k) × ((p ≡ left payloads (judged t) p)
     × ((o ≡ left owners (judged t) o) × ((a ≡ left afters (judged t) a) × (r ≡ left roots (judged t) r)))))
 unfolding answer left
 refuses t n l k p o a r e = rw e (refl, (refl, (refl, (refl, (refl, refl)))))
@@ -146,15 +148,25 @@ zeros-column n vs h =
 
 -- an accepted table fills them
 pub accepts : (t : List ℕ) (s : Sofar) (x : Checked) (k p o a r k₀ p₀ o₀ a₀ r₀ : List ℕ) → judged t ≡ accepted s → x ≡ answer (judged t)
-  → Filled s k p o r (replicate 1024 0) (replicate 1024 0) (replicate 1024 0) (replicate 64 0) → (n : ℕ) → n ≡ length (s .terms) → a ≡ walked n k (replicate 1024 0)
-  → (x ≡ answer (judged t)) × ((k ≡ left kinds (judged t) k₀) × ((p ≡ left payloads (judged t) p₀)
+    → Filled s k p o r (replicate 1024 0) (replicate 1024 0) (replicate 1024 0) (replicate 64 0) → (n : ℕ) → n ≡ length (s .terms) → a ≡ walked n k (replicate 1024 0)
+    → (x ≡ answer (judged t)) × ((k ≡ left kinds (judged t) k₀) × ((p ≡ left payloads (judged t) p₀)
     × ((o ≡ left owners (judged t) o₀) × ((a ≡ left afters (judged t) a₀) × (r ≡ left roots (judged t) r₀)))))
 unfolding left kinds payloads owners afters roots
 accepts t s x k p o a r k₀ p₀ o₀ a₀ r₀ e q f m c w =
     let n : (of : Item → ℕ) → length (map of (s .terms)) ≤ 1024 = λ of. rw (length-map (s .terms) of) (f .terms-fit) in
-    let ks : k ≡ kinds s = f .kinds-are ∙ zeros-column 1024 _ (n (λ (i : Item). i .kind)) in
-    (q, (rw e ks,
-        (rw e (f .payloads-are ∙ zeros-column 1024 _ (n (λ (i : Item). i .payload))),
-        (rw e (f .owners-are ∙ zeros-column 1024 _ (n (λ (i : Item). i .definition))),
-        (rw e (w ∙ ap₂ (λ (j : ℕ) (l : List ℕ). walked j l (replicate 1024 0)) c ks),
-        rw e (f .roots-are ∙ zeros-column 64 _ (f .roots-fit)))))))
+    let ks : k ≡ kinds s = f .kinds-are ∙ zeros-column 1024 _ (n (λ (i : Item). i .kind)) in (
+      q,
+      (
+        rw e ks,
+        (
+          rw e (f .payloads-are ∙ zeros-column 1024 _ (n (λ (i : Item). i .payload))),
+          (
+            rw e (f .owners-are ∙ zeros-column 1024 _ (n (λ (i : Item). i .definition))),
+            (
+              rw e (w ∙ ap₂ (λ (j : ℕ) (l : List ℕ). walked j l (replicate 1024 0)) c ks),
+              rw e (f .roots-are ∙ zeros-column 64 _ (f .roots-fit)),
+            ),
+          ),
+        ),
+      ),
+    )
