@@ -1,0 +1,2 @@
+-- Laws of places: `Ways` of following terms downward, a step at a time.
+pub mod Ways

@@ -1,0 +1,113 @@
+-- Following terms downward, a step at a time: what a column has at a number, which subterm comes next, and what each end of the way
+-- says of the path and of the digits written. Assumes nothing.
+use Prim.Native.Nat.{ℕ, zero, suc, _+_, _-_, _≤_, _<_}
+use mathlib.Core.Path.{_≡_, refl, sym, ap, _∙_}
+use mathlib.Core.Bool.{Bool, true, false, _&&_}
+use mathlib.Core.List.{List, [], _∷_}
+use mathlib.Core.Option.{Option, none, some}
+use native.Mathlib.Omega.{arith}
+use native.Mathlib.Nat.{add-zero}
+use native.Mathlib.Numerals.{add-one}
+use lib.ListN.{length, getD, set}
+use lib.Seq.{sets, set-comm}
+use lib.Dec.{ltb, leb, eqb}
+use borrow.Author.Tests.{ltb-true, lt-ltb, le-ltb, le-leb, lt-leb, eq-eqb, ne-eqb}
+use Rattle.lines.specs.Line.{choose}
+use Rattle.tables.specs.Kind.{subterms}
+use Rattle.places.specs.Code.{look, next, digit, below, descended, reached, digits}
+use Rattle.places.specs.declared.Reached.{Reached}
+use Rattle.places.specs.declared.Reached.the-variants.{Ends, Astray}
+
+module _ (n : ℕ) (xs : List ℕ) (i : ℕ) where
+  pub look-in : i < n → getD xs i 0 ≡ look n xs i
+  unfolding look
+  look-in h = simp (lt-ltb i n h)
+
+  pub look-out : n ≤ i → 0 ≡ look n xs i
+  unfolding look
+  look-out h = simp (le-ltb i n h)
+
+-- a term with subterms is one of the column's
+pub inside : (ks : List ℕ) (i : ℕ) → (subterms (look 1024 ks i) ≡ 0 → ⊥) → i < 1024
+unfolding look subterms
+inside ks i h = go (ltb i 1024) refl
+  where
+    go : (b : Bool) → ltb i 1024 ≡ b → i < 1024
+    go true e = ltb-true i 1024 e
+    go false e = absurd (h (rw e))
+
+-- a step by the number of subterms and the side that the aim stands on
+module _ (n : ℕ) (xs : List ℕ) (i j : ℕ) where
+  pub step-only : (n ≡ 2 → ⊥) → (i + 1 ≡ next n xs i j) × (2 ≡ digit n xs i j)
+  unfolding next digit
+  step-only h = simp (ne-eqb n 2 h) (refl, refl)
+
+  module _ (two : n ≡ 2) (s : ℕ) (is : s ≡ look 1024 xs (i + 1)) where
+    pub step-second : s ≤ j → (s ≡ next n xs i j) × (2 ≡ digit n xs i j)
+    unfolding next digit
+    step-second h = rw (← is) (simp (eq-eqb n 2 two, le-leb s j h, le-ltb j s h) (refl, refl))
+
+    pub step-first : j < s → (i + 1 ≡ next n xs i j) × (1 ≡ digit n xs i j)
+    unfolding next digit
+    step-first h = rw (← is) (simp (eq-eqb n 2 two, lt-leb s j h, lt-ltb j s h) (refl, refl))
+
+-- a store below a run of stores
+set-under : (l : List ℕ) (i j : ℕ) (x : ℕ) (ws : List ℕ) → i < j → set (sets l j ws) i x ≡ sets (set l i x) j ws
+set-under l i j x [] h = refl
+set-under l i j x (w ∷ ws) h =
+    set-under (set l j w) i (suc j) x ws (omega arith)
+    ∙ ap (λ (m : List ℕ). sets m (suc j) ws) (set-comm l j i w x (λ e. omega arith))
+
+-- where the way ends, and what is written
+abbrev Leaves : ℕ → List ℕ → Option (List ℕ) → Reached → List ℕ → Type 0
+Leaves d p o r q = (r ≡ reached d o) × (q ≡ sets p d (digits o))
+
+module _ (d : ℕ) (p : List ℕ) (f : ℕ) (ks xs : List ℕ) (i j : ℕ) where
+  pub way-done : i ≡ j → Leaves d p (descended f ks xs i j) (Ends d) p
+  unfolding descended reached digits
+  way-done e = go f
+    where
+      go : (f : ℕ) → Leaves d p (descended f ks xs i j) (Ends d) p
+      go zero = simp (eq-eqb i j e) (ap Ends (sym (add-zero d)), refl)
+      go (suc f) = simp (eq-eqb i j e) (ap Ends (sym (add-zero d)), refl)
+
+  module _ (away : i ≡ j → ⊥) where
+    pub way-short : f ≡ 0 → Leaves d p (descended f ks xs i j) Astray p
+    unfolding descended reached digits
+    way-short e = rw e (simp (ne-eqb i j away) (refl, refl))
+
+    pub way-leaf : subterms (look 1024 ks i) ≡ 0 → Leaves d p (descended f ks xs i j) Astray p
+    unfolding descended reached digits
+    way-leaf e = go f
+      where
+        go : (f : ℕ) → Leaves d p (descended f ks xs i j) Astray p
+        go zero = simp (ne-eqb i j away) (refl, refl)
+        go (suc f) = simp (ne-eqb i j away, eq-eqb (subterms (look 1024 ks i)) 0 e) (refl, refl)
+
+    module _ (g n x m : ℕ) (more : f ≡ suc g) (count : n ≡ subterms (look 1024 ks i)) (some-of : n ≡ 0 → ⊥)
+        (x-is : x ≡ digit n xs i j) (m-is : m ≡ next n xs i j) where
+      step : descended f ks xs i j ≡ below x (descended g ks xs m j)
+      unfolding descended
+      step = rw (more, x-is, m-is, count)
+          (simp (ne-eqb i j away, ne-eqb (subterms (look 1024 ks i)) 0 (λ z. some-of (count ∙ z))))
+
+      pub way-astray : (q : List ℕ) (r : Reached) → r ≡ Astray → Leaves (d + 1) p (descended g ks xs m j) r q → Leaves d p (descended f ks xs i j) r q
+      unfolding below reached digits
+      way-astray q r e h = rw step (go (descended g ks xs m j) h)
+        where
+          go : (o : Option (List ℕ)) → Leaves (d + 1) p o r q → Leaves d p (below x o) r q
+          go none h = h
+          go (some w) h = let z : _≡_ {A = ℕ} 0 1 = cc in absurd (omega arith)
+
+      pub way-down : (q : List ℕ) (r : Reached) (e : ℕ) → r ≡ Ends e → Leaves (d + 1) p (descended g ks xs m j) r q
+        → Leaves d p (descended f ks xs i j) (Ends e) (set q d x)
+      unfolding below reached digits
+      way-down q r e k h = rw step (go (descended g ks xs m j) h)
+        where
+          go : (o : Option (List ℕ)) → Leaves (d + 1) p o r q → Leaves d p (below x o) (Ends e) (set q d x)
+          go none h = let z : _≡_ {A = ℕ} 0 1 = cc in absurd (omega arith)
+          go (some w) h =
+              let at : d + 1 + length w ≡ e = cc in
+              let end : e ≡ d + suc (length w) = omega arith in
+              (ap Ends end,
+               ap (λ (l : List ℕ). set l d x) (h .1) ∙ set-under p d (d + 1) x w (omega arith) ∙ ap (λ (k : ℕ). sets (set p d x) k w) (add-one d))
