@@ -1,0 +1,1 @@
+-- What frame a line's characters stand for. Assumes nothing.
