@@ -1,13 +1,12 @@
 -- What frame a line's characters stand for: its bytes have a tag, the tag has a shape, and the shape has a count of bytes, which
 -- fits or does not. Assumes nothing.
 use Prim.Native.Nat.{ℕ, zero, suc, _≤_, _<_, _-_, _+_, _*_, _/_}
-use mathlib.Core.Path.{_≡_, refl, sym, ap, _∙_}
-use mathlib.Core.Bool.{true, false, _&&_}
+use mathlib.Core.Path.{_≡_, sym, _∙_}
 use mathlib.Core.List.{List, [], _∷_}
 use mathlib.Core.Option.{some}
 use native.Mathlib.Omega.{arith}
 use lib.ListN.{length, take, drop, getD, length-drop}
-use lib.Dec.{leb, eqb}
+use lib.Dec.{eqb}
 use lib.Seq.{take-all}
 use borrow.Author.Tests.{le-leb, lt-leb, eq-eqb, ne-eqb}
 use Rattle.lines.specs.Line.{choose, number, bytes}
@@ -48,7 +47,8 @@ module _ (bs : List ℕ) where
     unfolding frame-of known
     no-such-kind t j h = simp (t, rw kind at (le-leb 1 k j), rw kind at (lt-leb k 8 h))
 
-  pub no-tag : {t : ℕ} → t ≡ getD bs 0 0 → (t ≡ 0x12 → ⊥) → (t ≡ 0x11 → ⊥) → (t ≡ 0x1f → ⊥) → (t ≡ 0x10 → ⊥) → Wrong ≡ frame-of bs
+  pub no-tag : {t : ℕ} → t ≡ getD bs 0 0 → (t ≡ 0x12 → ⊥) → (t ≡ 0x11 → ⊥) → (t ≡ 0x1f → ⊥) → (t ≡ 0x10 → ⊥)
+      → Wrong ≡ frame-of bs
   unfolding frame-of
   no-tag {t} e p q r s = simp (sym e, ne-eqb t 0x12 p, ne-eqb t 0x11 q, ne-eqb t 0x1f r, ne-eqb t 0x10 s)
 
@@ -84,7 +84,8 @@ module _ (cs bs : List ℕ) (stands : bytes cs ≡ some bs) where
   pub tagged : {b t : ℕ} → b ≡ byteAt cs 0 → b ≡ t → getD bs 0 0 ≡ t
   tagged e h = sym (byte-read 0 e) ∙ h
 
-  pub number-read : (k : ℕ) {n : ℕ} → length cs / 2 - k ≤ 8 → n ≡ numberOf 0 (take (length cs - 2 * k) (drop (2 * k) cs)) → n ≡ number (drop k bs)
+  pub number-read : (k : ℕ) {n : ℕ} → length cs / 2 - k ≤ 8
+      → n ≡ numberOf 0 (take (length cs - 2 * k) (drop (2 * k) cs)) → n ≡ number (drop k bs)
   number-read k h e =
       let whole = take-all (length cs - 2 * k) (drop (2 * k) cs) (omega (arith, length-drop (2 * k) cs)) in
       e ∙ rw whole (number-is (drop (2 * k) cs) (drop k bs) (bytes-drop cs bs k stands) (omega (arith, counted, length-drop k bs)))

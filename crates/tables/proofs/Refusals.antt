@@ -1,8 +1,8 @@
 -- What number a line meets, at each place where its tests can stop. Each law takes the facts that the tests before it told, and
 -- computes with them. Assumes nothing.
-use Prim.Native.Nat.{ℕ, _≤_, _<_, _+_, _*_, _%_, _^_}
+use Prim.Native.Nat.{ℕ, _≤_, _<_, _*_, _%_, _^_}
 use mathlib.Core.Path.{_≡_, refl, sym, ap, _∙_}
-use mathlib.Core.Bool.{Bool, true, false, _&&_, _||_, not}
+use mathlib.Core.Bool.{Bool, true, false, not}
 use native.Mathlib.Omega.{arith}
 use native.Mathlib.Nat.{one-mul}
 use native.Mathlib.Numerals.{add-one}
@@ -11,8 +11,7 @@ use lib.Pow.{pow-mono, shl-exact}
 use borrow.Author.Tests.{le-leb, lt-leb, eq-eqb, ne-eqb, lt-ltb, le-ltb, leb-true, leb-false}
 use Rattle.lines.specs.Line.{choose}
 use Rattle.tables.specs.Table.{limit, longest, refusal, first-refusal}
-use Rattle.tables.specs.declared.Frame.{Frame}
-use Rattle.tables.specs.declared.Frame.the-variants.{Opening, Definition, Term, Closing, Wrong}
+use Rattle.tables.specs.declared.Frame.the-variants.{Opening, Definition, Term, Closing}
 use Rattle.tables.specs.declared.Seen.{Seen}
 
 -- line 1: its edition, then each count at its end of the range
@@ -111,13 +110,9 @@ module _ (k p : ℕ) (s : Seen) where
         term-crowded h = simp (ne-eqb (s .begun) 0 inside, named, ne-eqb (s .due) 0 due, le-leb 1024 (s .terms) h)
 
         module _ (room : s .terms < 1024) where
-          pub term-deep : ltb 64 (longest s k) ≡ true → refusal (Term k p) s ≡ 5
+          pub term-last : {deep : Bool} → ltb 64 (longest s k) ≡ deep → refusal (Term k p) s ≡ choose deep 5 0
           unfolding refusal
-          term-deep h = simp (ne-eqb (s .begun) 0 inside, named, ne-eqb (s .due) 0 due, lt-leb 1024 (s .terms) room, h)
-
-          pub term-fine : ltb 64 (longest s k) ≡ false → refusal (Term k p) s ≡ 0
-          unfolding refusal
-          term-fine h = simp (ne-eqb (s .begun) 0 inside, named, ne-eqb (s .due) 0 due, lt-leb 1024 (s .terms) room, h)
+          term-last h = simp (ne-eqb (s .begun) 0 inside, named, ne-eqb (s .due) 0 due, lt-leb 1024 (s .terms) room, h)
 
 -- the path of a term's own literals, by its kind
 module _ (s : Seen) (k : ℕ) where
@@ -129,7 +124,7 @@ module _ (s : Seen) (k : ℕ) where
   unfolding longest
   deep-other h = simp (ne-eqb k 2 h)
 
--- what a payload is below, by its kind; a set is within 64 bits, and the shift makes its limit where that is too
+-- what a payload is below, by its kind: a set's limit is made by the shift, where it is within 64 bits as every set is
 module _ (k p : ℕ) (s : Seen) where
   pub over-call : k ≡ 1 → leb (s .definitions) p ≡ leb (limit s k) p
   unfolding limit

@@ -4,8 +4,6 @@ use mathlib.Core.Path.{sym}
 use Rattle.tables.proofs.Refusals.{closing-miscounts, closing-due, closing-early, closing-fine}
 use Rattle.tables.proofs.judging.closing_refusal.Statement.{statement}
 use Rattle.tables.proofs.judging.closing_refusal.Tie as tie
-use Rattle.tables.proofs.judging.closing_refusal.Reads as reads
-use Rattle.tables.proofs.judging.closing_refusal.Lts as lts
 
 returns : tie.Need-returns
 returns c = sym (closing-miscounts _ _ (c .if1 .taken))

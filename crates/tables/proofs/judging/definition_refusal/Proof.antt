@@ -4,8 +4,6 @@ use mathlib.Core.Path.{sym}
 use Rattle.tables.proofs.Refusals.{definition-other, definition-past, definition-early, definition-fine}
 use Rattle.tables.proofs.judging.definition_refusal.Statement.{statement}
 use Rattle.tables.proofs.judging.definition_refusal.Tie as tie
-use Rattle.tables.proofs.judging.definition_refusal.Reads as reads
-use Rattle.tables.proofs.judging.definition_refusal.Lts as lts
 
 returns : tie.Need-returns
 returns c = sym (definition-other _ _ (c .if1 .taken))

@@ -4,8 +4,6 @@ use mathlib.Core.Path.{sym}
 use Rattle.tables.proofs.Refusals.{outside-edition, outside-none, outside-many, outside-events}
 use Rattle.tables.proofs.judging.opening_outside.Statement.{statement}
 use Rattle.tables.proofs.judging.opening_outside.Tie as tie
-use Rattle.tables.proofs.judging.opening_outside.Reads as reads
-use Rattle.tables.proofs.judging.opening_outside.Lts as lts
 
 returns : tie.Need-returns
 returns c = sym (outside-edition _ _ _ (c .if1 .taken))

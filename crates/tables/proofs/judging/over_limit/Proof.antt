@@ -1,11 +1,9 @@
--- `tables::judging::over_limit` meets its contract. Each kind's test is against its limit: a set's is the power that the shift makes, and beyond every payload where that does not fit 64 bits.
--- Assumes nothing.
+-- `tables::judging::over_limit` meets its contract. Each kind's test is against its limit; a set's is the power that the shift
+-- makes, and where that has no room in 64 bits every payload is below it. Assumes nothing.
 use Rattle.tables.proofs.Refusals.{over-call, over-prefix, over-every, over-shifted, over-other}
 use borrow.Author.Needs.{needs}
 use Rattle.tables.proofs.judging.over_limit.Statement.{statement}
 use Rattle.tables.proofs.judging.over_limit.Tie as tie
-use Rattle.tables.proofs.judging.over_limit.Reads as reads
-use Rattle.tables.proofs.judging.over_limit.Lts as lts
 
 returns : tie.Need-returns
 returns c = over-call _ _ _ (c .if1 .taken)

@@ -1,5 +1,5 @@
--- `tables::judging::refusal` meets its contract. The frame is the variant of its arm, whose number the arm's function promises or the definition has.
--- Assumes nothing.
+-- `tables::judging::refusal` meets its contract. In each arm the frame is the arm's variant, whose number is promised by the
+-- function called there or is the definition's 2. Assumes nothing.
 use mathlib.Core.Path.{_≡_, sym, ap, _∙_}
 use Rattle.tables.specs.Table.{refusal}
 use Rattle.tables.specs.declared.Frame.{Frame}
@@ -7,11 +7,6 @@ use Rattle.tables.specs.declared.Seen.{Seen}
 use borrow.Author.Needs.{needs}
 use Rattle.tables.proofs.judging.refusal.Statement.{statement}
 use Rattle.tables.proofs.judging.refusal.Tie as tie
-use Rattle.tables.proofs.judging.refusal.Reads as reads
-use Rattle.tables.proofs.judging.refusal.Lts as lts
-use Rattle.tables.proofs.judging.closing_refusal.Reads as closing-refusal-reads
-use Rattle.tables.proofs.judging.definition_refusal.Reads as definition-refusal-reads
-use Rattle.tables.proofs.judging.term_refusal.Reads as term-refusal-reads
 
 of : {f g : Frame} (s : Seen) → f ≡ g → refusal g s ≡ refusal f s
 of s e = ap (λ (h : Frame). refusal h s) (sym e)

@@ -1,14 +1,10 @@
 -- `tables::judging::term_refusal` meets its contract. Each return is the law of a term at the test where it stands.
 -- Assumes nothing.
 use mathlib.Core.Path.{sym, _∙_}
-use Rattle.tables.proofs.Refusals.{term-nowhere, term-over, term-undue, term-crowded, term-deep, term-fine}
+use Rattle.tables.proofs.Refusals.{term-nowhere, term-over, term-undue, term-crowded, term-last}
 use borrow.Author.Needs.{needs}
 use Rattle.tables.proofs.judging.term_refusal.Statement.{statement}
 use Rattle.tables.proofs.judging.term_refusal.Tie as tie
-use Rattle.tables.proofs.judging.term_refusal.Reads as reads
-use Rattle.tables.proofs.judging.term_refusal.Lts as lts
-use Rattle.tables.proofs.judging.over_limit.Reads as over-limit-reads
-use Rattle.tables.proofs.judging.too_deep.Reads as too-deep-reads
 
 returns : tie.Need-returns
 returns c = sym (term-nowhere _ _ _ (c .if1 .taken))
@@ -20,19 +16,40 @@ returns-2 : tie.Need-returns-2
 returns-2 c = sym (term-over _ _ _ (c .before .before .if1 .left) (sym (c .before .over-limit .ensures) ∙ c .if2 .taken))
 
 returns-3 : tie.Need-returns-3
-returns-3 c = sym (term-undue _ _ _ (c .before .before .before .before .if1 .left) (sym (c .before .before .before .over-limit .ensures) ∙ c .before .before .if2 .left) (c .if3 .taken))
+returns-3 c =
+    sym
+    (term-undue _ _ _ (c .before .before .before .before .if1 .left)
+    (sym (c .before .before .before .over-limit .ensures) ∙ c .before .before .if2 .left)
+    (c .if3 .taken))
 
 returns-4 : tie.Need-returns-4
-returns-4 c = sym (term-crowded _ _ _ (c .before .before .before .before .before .before .if1 .left) (sym (c .before .before .before .before .before .over-limit .ensures) ∙ c .before .before .before .before .if2 .left) (c .before .before .if3 .left) (c .if4 .taken))
+returns-4 c =
+    sym
+    (term-crowded _ _ _ (c .before .before .before .before .before .before .if1 .left)
+    (sym (c .before .before .before .before .before .over-limit .ensures) ∙ c .before .before .before .before .if2 .left)
+    (c .before .before .if3 .left)
+    (c .if4 .taken))
 
 too-deep-requires : tie.Need-too-deep-requires
 too-deep-requires c κs = search needs
 
 returns-5 : tie.Need-returns-5
-returns-5 c = sym (term-deep _ _ _ (c .before .before .before .before .before .before .before .before .if1 .left) (sym (c .before .before .before .before .before .before .before .over-limit .ensures) ∙ c .before .before .before .before .before .before .if2 .left) (c .before .before .before .before .if3 .left) (c .before .before .if4 .left) (sym (c .before .too-deep .ensures) ∙ c .if5 .taken))
+returns-5 c =
+    sym
+    (term-last _ _ _ (c .before .before .before .before .before .before .before .before .if1 .left)
+    (sym (c .before .before .before .before .before .before .before .over-limit .ensures) ∙ c .before .before .before .before .before .before .if2 .left)
+    (c .before .before .before .before .if3 .left)
+    (c .before .before .if4 .left)
+    (sym (c .before .too-deep .ensures) ∙ c .if5 .taken))
 
 returns-6 : tie.Need-returns-6
-returns-6 c = sym (term-fine _ _ _ (c .before .before .before .before .before .before .before .before .if1 .left) (sym (c .before .before .before .before .before .before .before .over-limit .ensures) ∙ c .before .before .before .before .before .before .if2 .left) (c .before .before .before .before .if3 .left) (c .before .before .if4 .left) (sym (c .before .too-deep .ensures) ∙ c .if5 .left))
+returns-6 c =
+    sym
+    (term-last _ _ _ (c .before .before .before .before .before .before .before .before .if1 .left)
+    (sym (c .before .before .before .before .before .before .before .over-limit .ensures) ∙ c .before .before .before .before .before .before .if2 .left)
+    (c .before .before .before .before .if3 .left)
+    (c .before .before .if4 .left)
+    (sym (c .before .too-deep .ensures) ∙ c .if5 .left))
 
 pub term-refusal-spec : {M : Type 1} → statement M
 term-refusal-spec =

@@ -1,10 +1,8 @@
--- `tables::judging::too_deep` meets its contract. A prefix's event is one digit below the prefix, and any other term's literals are where the term is.
--- Assumes nothing.
+-- `tables::judging::too_deep` meets its contract. A prefix's event is one digit below the prefix, and any other term's literals
+-- are where the term is. Assumes nothing.
 use Rattle.tables.proofs.Refusals.{deep-prefix, deep-other}
 use Rattle.tables.proofs.judging.too_deep.Statement.{statement}
 use Rattle.tables.proofs.judging.too_deep.Tie as tie
-use Rattle.tables.proofs.judging.too_deep.Reads as reads
-use Rattle.tables.proofs.judging.too_deep.Lts as lts
 
 returns : tie.Need-returns
 returns c = deep-prefix _ _ (c .before .if1 .taken)
