@@ -75,18 +75,20 @@ module _ (t : ℕ) (s : Seen) where
   closing-miscounts h = simp (ne-eqb t (s .terms) h)
 
   module _ (counts : t ≡ s .terms) where
-    pub closing-due : (s .due ≡ 0 → ⊥) → refusal (Closing t) s ≡ 4
+    pub closing-due : 0 < s .due → refusal (Closing t) s ≡ 4
     unfolding refusal
-    closing-due h = simp (eq-eqb t (s .terms) counts, ne-eqb (s .due) 0 h)
+    closing-due h = simp (eq-eqb t (s .terms) counts, ne-eqb (s .due) 0 (λ q. omega arith))
 
-    module _ (whole : s .due ≡ 0) where
+    module _ (whole : s .due ≤ 0) where
       pub closing-early : s .begun < s .definitions → refusal (Closing t) s ≡ 4
       unfolding refusal
-      closing-early h = simp (eq-eqb t (s .terms) counts, eq-eqb (s .due) 0 whole, lt-ltb (s .begun) (s .definitions) h)
+      closing-early h =
+          simp (eq-eqb t (s .terms) counts, eq-eqb (s .due) 0 (omega arith), lt-ltb (s .begun) (s .definitions) h)
 
       pub closing-fine : s .definitions ≤ s .begun → refusal (Closing t) s ≡ 0
       unfolding refusal
-      closing-fine h = simp (eq-eqb t (s .terms) counts, eq-eqb (s .due) 0 whole, le-ltb (s .begun) (s .definitions) h)
+      closing-fine h =
+          simp (eq-eqb t (s .terms) counts, eq-eqb (s .due) 0 (omega arith), le-ltb (s .begun) (s .definitions) h)
 
 -- a term
 module _ (k p : ℕ) (s : Seen) where

@@ -125,7 +125,7 @@ fn closing_refusal(count: u64, s: Seen) -> u8
     if count != s.terms as u64 {
         return 3;
     }
-    if s.due != 0 {
+    if 0 < s.due {
         return 4;
     }
     if s.begun < s.definitions {
