@@ -10,12 +10,22 @@ use lines::next_line;
 use lines::refusal_of;
 ghost use mathlib.Core.Path.{_≡_};
 ghost use lib.ListN.{drop};
-ghost use lib.Dec.{leb, eqb};
+ghost use lib.Dec.{leb, ltb, eqb};
 ghost use mathlib.Core.Bool.{not};
 ghost use Rattle.lines.specs.Line.{lines};
 ghost use Rattle.tables.specs.Table as table;
 ghost use Rattle.tables.specs.Code.{said, opened};
 ghost use Rattle.tables.specs.declared.Frame.the-variants.{Opening, Definition, Term, Closing};
+
+const CALL: u8 = 1;
+
+const PREFIX: u8 = 2;
+
+const PARALLEL: u8 = 6;
+
+const TERM_ROOM: usize = 1024;
+
+const PATH_ROOM: usize = 64;
 
 // Line 1 of a table.
 pub fn first_line(text: &[u8]) -> Opened
@@ -115,7 +125,7 @@ fn closing_refusal(count: u64, s: Seen) -> u8
     if count != s.terms as u64 {
         return 3;
     }
-    if s.due != 0 {
+    if 0 < s.due {
         return 4;
     }
     if s.begun < s.definitions {
@@ -136,16 +146,11 @@ fn term_refusal(kind: u8, payload: u64, s: Seen) -> u8
     if s.due == 0 {
         return 4;
     }
-    if 1024 <= s.terms {
+    if TERM_ROOM <= s.terms {
         return 5;
     }
-    if 64 < s.depth {
+    if too_deep(kind, s) {
         return 5;
-    }
-    if kind == 2 {
-        if 64 == s.depth {
-            return 5;
-        }
     }
     0
 }
@@ -154,17 +159,27 @@ fn term_refusal(kind: u8, payload: u64, s: Seen) -> u8
 fn over_limit(kind: u8, payload: u64, s: Seen) -> bool
     ensures { λ r. ⌜ r ≡ leb (table.limit s kind) payload ⌝ }
 {
-    if kind == 1 {
+    if kind == CALL {
         return s.definitions as u64 <= payload;
     }
-    if kind == 2 {
+    if kind == PREFIX {
         return s.events as u64 <= payload;
     }
-    if kind == 6 {
+    if kind == PARALLEL {
         if 64 <= s.events {
             return false;
         }
         return (1u64 << s.events) <= payload;
     }
     1 <= payload
+}
+
+// A term with a literal below the longest path: a prefix's event stands one digit further down.
+fn too_deep(kind: u8, s: Seen) -> bool
+    ensures { λ r. ⌜ r ≡ ltb table.path-room (table.longest s kind) ⌝ }
+{
+    if kind == PREFIX {
+        return PATH_ROOM <= s.depth;
+    }
+    PATH_ROOM < s.depth
 }

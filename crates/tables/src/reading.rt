@@ -65,7 +65,7 @@ fn read_term(chars: &[u8]) -> Frame
     if 8 < kind {
         return Frame::Wrong;
     }
-    let want = payload_bytes(kind) as usize + 2;
+    let want = 2 + payload_bytes(kind) as usize;
     if count != want {
         return Frame::Wrong;
     }

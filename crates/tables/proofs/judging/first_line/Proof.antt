@@ -1,65 +1,67 @@
+-- `tables::judging::first_line` meets its contract. What each call promises makes the text's first line none, a line with
+-- another frame, or line 1 with its numbers outside or inside their ranges. Assumes nothing.
+use Rattle.tables.proofs.Cursor.{opened-none, opened-other, opened-first}
 use borrow.Author.Needs.{needs}
 use Rattle.tables.proofs.judging.first_line.Statement.{statement}
 use Rattle.tables.proofs.judging.first_line.Tie as tie
-use Rattle.tables.proofs.judging.first_line.Reads as reads
-use Rattle.tables.proofs.judging.first_line.Lts as lts
-use Rattle.lines.proofs.characters.Reads as characters-reads
-use Rattle.lines.proofs.next_line.Reads as next-line-reads
-use Rattle.lines.proofs.refusal_of.Reads as refusal-of-reads
-use Rattle.tables.proofs.judging.opening_outside.Reads as opening-outside-reads
-use Rattle.tables.proofs.reading.read_frame.Reads as read-frame-reads
 
--- src/judging.rt:24:9
 next-line-requires : tie.Need-next-line-requires
 next-line-requires c κs = search needs
 
--- src/judging.rt:25:23
 enum-known-line : tie.Need-enum-known-line
-enum-known-line c = search needs
+enum-known-line c = c .match .keys1
 
--- src/judging.rt:26:30
 refusal-of-requires : tie.Need-refusal-of-requires
 refusal-of-requires c κs = search needs
 
--- src/judging.rt:26:9
 returns : tie.Need-returns
-returns c = ?
+returns c = opened-none _ 0 (c .before .before .next-line .ensures) (c .before .match .keys2) (c .refusal-of .ensures)
 
--- src/judging.rt:28:28
 characters-requires : tie.Need-characters-requires
 characters-requires c κs = search needs
 
--- src/judging.rt:28:9
 read-frame-requires : tie.Need-read-frame-requires
 read-frame-requires c κs = search needs
 
--- src/judging.rt:30:9
 enum-known-frame : tie.Need-enum-known-frame
-enum-known-frame c = search needs
+enum-known-frame c = c .match2 .keys1
 
--- src/judging.rt:35:9
 returns-2 : tie.Need-returns-2
-returns-2 c = ?
+returns-2 c =
+    opened-other _ _ _ (c .before .before .before .before .before .before .next-line .ensures)
+    (c .before .before .before .before .line .given .1)
+    (c .before .before .characters .ensures)
+    (c .before .read-frame .ensures)
+    (c .match2 .keys2)
 
--- src/judging.rt:37:8
 opening-outside-requires : tie.Need-opening-outside-requires
 opening-outside-requires c κs = search needs
 
--- src/judging.rt:38:9
 returns-3 : tie.Need-returns-3
-returns-3 c = ?
+returns-3 c =
+    opened-first _ _ _ (c .before .before .before .before .before .before .before .before .before .before .next-line .ensures)
+    (c .before .before .before .before .before .before .before .before .line .given .1)
+    (c .before .before .before .before .before .before .characters .ensures)
+    (c .before .before .before .before .before .read-frame .ensures)
+    (c .before .before .before .frame .given .1)
+    (c .before .opening-outside .ensures)
+    (c .if1 .taken)
 
--- src/judging.rt:41:22
 cast-t12 : tie.Need-cast-t12
 cast-t12 c = search needs
 
--- src/judging.rt:42:17
 cast-t13 : tie.Need-cast-t13
 cast-t13 c = search needs
 
--- src/judging.rt:21:1
 returns-4 : tie.Need-returns-4
-returns-4 c = ?
+returns-4 c =
+    opened-first _ _ _ (c .before .before .before .before .before .before .before .before .before .before .next-line .ensures)
+    (c .before .before .before .before .before .before .before .before .line .given .1)
+    (c .before .before .before .before .before .before .characters .ensures)
+    (c .before .before .before .before .before .read-frame .ensures)
+    (c .before .before .before .frame .given .1)
+    (c .before .opening-outside .ensures)
+    (c .if1 .left)
 
 pub first-line-spec : {M : Type 1} → statement M
 first-line-spec =

@@ -1,32 +1,27 @@
+-- `tables::judging::over_limit` meets its contract. Each kind's test is against its limit; a set's is the power that the shift
+-- makes, and where that has no room in 64 bits every payload is below it. Assumes nothing.
+use Rattle.tables.proofs.Refusals.{over-call, over-prefix, over-every, over-shifted, over-other}
 use borrow.Author.Needs.{needs}
 use Rattle.tables.proofs.judging.over_limit.Statement.{statement}
 use Rattle.tables.proofs.judging.over_limit.Tie as tie
-use Rattle.tables.proofs.judging.over_limit.Reads as reads
-use Rattle.tables.proofs.judging.over_limit.Lts as lts
 
--- src/judging.rt:158:9
 returns : tie.Need-returns
-returns c = ?
+returns c = over-call _ _ _ (c .if1 .taken)
 
--- src/judging.rt:161:9
 returns-2 : tie.Need-returns-2
-returns-2 c = ?
+returns-2 c = over-prefix _ _ _ (c .if2 .taken)
 
--- src/judging.rt:165:13
 returns-3 : tie.Need-returns-3
-returns-3 c = ?
+returns-3 c = over-every _ _ _ (c .before .before .if3 .taken) (c .if4 .taken) (search needs)
 
--- src/judging.rt:167:17
 shl-result : tie.Need-shl-result
 shl-result c = search needs
 
--- src/judging.rt:167:9
 returns-4 : tie.Need-returns-4
-returns-4 c = ?
+returns-4 c = over-shifted _ _ _ (c .before .before .if3 .taken) (c .if4 .left)
 
--- src/judging.rt:154:1
 returns-5 : tie.Need-returns-5
-returns-5 c = ?
+returns-5 c = over-other _ _ _ (c .before .before .if1 .left) (c .before .if2 .left) (c .if3 .left)
 
 pub over-limit-spec : {M : Type 1} → statement M
 over-limit-spec = tie.close (tie.spec returns returns-2 returns-3 shl-result returns-4 returns-5)

@@ -1,49 +1,51 @@
+-- `tables::judging::table_line` meets its contract. What each call promises makes the line at the cursor none, or one whose
+-- frame is the one read and meets the number found. Assumes nothing.
+use Rattle.tables.specs.Table.{refusal}
+use Rattle.tables.proofs.Cursor.{said-none, said-stops, said-goes}
 use borrow.Author.Needs.{needs}
 use Rattle.tables.proofs.judging.table_line.Statement.{statement}
 use Rattle.tables.proofs.judging.table_line.Tie as tie
-use Rattle.tables.proofs.judging.table_line.Reads as reads
-use Rattle.tables.proofs.judging.table_line.Lts as lts
-use Rattle.lines.proofs.characters.Reads as characters-reads
-use Rattle.lines.proofs.next_line.Reads as next-line-reads
-use Rattle.lines.proofs.refusal_of.Reads as refusal-of-reads
-use Rattle.tables.proofs.judging.refusal.Reads as refusal-reads
-use Rattle.tables.proofs.reading.read_frame.Reads as read-frame-reads
 
--- src/judging.rt:67:9
 next-line-requires : tie.Need-next-line-requires
 next-line-requires c κs = search needs
 
--- src/judging.rt:68:23
 enum-known-line : tie.Need-enum-known-line
-enum-known-line c = search needs
+enum-known-line c = c .match .keys1
 
--- src/judging.rt:69:28
 refusal-of-requires : tie.Need-refusal-of-requires
 refusal-of-requires c κs = search needs
 
--- src/judging.rt:69:9
 returns : tie.Need-returns
-returns c = ?
+returns c = said-none _ _ (c .before .before .next-line .ensures) (c .before .match .keys2) _ (c .refusal-of .ensures)
 
--- src/judging.rt:71:28
 characters-requires : tie.Need-characters-requires
 characters-requires c κs = search needs
 
--- src/judging.rt:71:9
 read-frame-requires : tie.Need-read-frame-requires
 read-frame-requires c κs = search needs
 
--- src/judging.rt:72:9
 refusal-requires : tie.Need-refusal-requires
 refusal-requires c κs = search needs
 
--- src/judging.rt:74:9
 returns-2 : tie.Need-returns-2
-returns-2 c = ?
+returns-2 c =
+    said-stops _ _ _ _ (c .before .before .before .before .before .before .before .next-line .ensures)
+    (c .before .before .before .before .before .line .given .1)
+    (c .before .before .before .characters .ensures)
+    (c .before .before .read-frame .ensures)
+    (λ f. refusal f (c .before .before .before .before .before .before .before .before .before .args .s))
+    (c .before .refusal .ensures)
+    (c .if1 .taken)
 
--- src/judging.rt:64:1
 returns-3 : tie.Need-returns-3
-returns-3 c = ?
+returns-3 c =
+    said-goes _ _ _ _ (c .before .before .before .before .before .before .before .next-line .ensures)
+    (c .before .before .before .before .before .line .given .1)
+    (c .before .before .before .characters .ensures)
+    (c .before .before .read-frame .ensures)
+    (λ f. refusal f (c .before .before .before .before .before .before .before .before .before .args .s))
+    (c .before .refusal .ensures)
+    (c .if1 .left)
 
 pub table-line-spec : {M : Type 1} → statement M
 table-line-spec =

@@ -1,45 +1,55 @@
+-- `tables::judging::term_refusal` meets its contract. Each return is the law of a term at the test where it stands.
+-- Assumes nothing.
+use mathlib.Core.Path.{sym, _∙_}
+use Rattle.tables.proofs.Refusals.{term-nowhere, term-over, term-undue, term-crowded, term-last}
 use borrow.Author.Needs.{needs}
 use Rattle.tables.proofs.judging.term_refusal.Statement.{statement}
 use Rattle.tables.proofs.judging.term_refusal.Tie as tie
-use Rattle.tables.proofs.judging.term_refusal.Reads as reads
-use Rattle.tables.proofs.judging.term_refusal.Lts as lts
-use Rattle.tables.proofs.judging.over_limit.Reads as over-limit-reads
 
--- src/judging.rt:131:9
 returns : tie.Need-returns
-returns c = ?
+returns c = sym (term-nowhere _ _ _ (c .if1 .taken))
 
--- src/judging.rt:133:8
 over-limit-requires : tie.Need-over-limit-requires
 over-limit-requires c κs = search needs
 
--- src/judging.rt:134:9
 returns-2 : tie.Need-returns-2
-returns-2 c = ?
+returns-2 c = sym (term-over _ _ _ (c .before .before .if1 .left) (sym (c .before .over-limit .ensures) ∙ c .if2 .taken))
 
--- src/judging.rt:137:9
 returns-3 : tie.Need-returns-3
-returns-3 c = ?
+returns-3 c =
+    sym
+    (term-undue _ _ _ (c .before .before .before .before .if1 .left)
+    (sym (c .before .before .before .over-limit .ensures) ∙ c .before .before .if2 .left)
+    (c .if3 .taken))
 
--- src/judging.rt:140:9
 returns-4 : tie.Need-returns-4
-returns-4 c = ?
+returns-4 c =
+    sym
+    (term-crowded _ _ _ (c .before .before .before .before .before .before .if1 .left)
+    (sym (c .before .before .before .before .before .over-limit .ensures) ∙ c .before .before .before .before .if2 .left)
+    (c .before .before .if3 .left)
+    (c .if4 .taken))
 
--- src/judging.rt:143:9
+too-deep-requires : tie.Need-too-deep-requires
+too-deep-requires c κs = search needs
+
 returns-5 : tie.Need-returns-5
-returns-5 c = ?
+returns-5 c =
+    sym
+    (term-last _ _ _ (c .before .before .before .before .before .before .before .before .if1 .left)
+    (sym (c .before .before .before .before .before .before .before .over-limit .ensures) ∙ c .before .before .before .before .before .before .if2 .left)
+    (c .before .before .before .before .if3 .left)
+    (c .before .before .if4 .left)
+    (sym (c .before .too-deep .ensures) ∙ c .if5 .taken))
 
--- src/judging.rt:147:13
 returns-6 : tie.Need-returns-6
-returns-6 c = ?
-
--- src/judging.rt:127:1
-returns-7 : tie.Need-returns-7
-returns-7 c = ?
-
--- src/judging.rt:127:1
-returns-8 : tie.Need-returns-8
-returns-8 c = ?
+returns-6 c =
+    sym
+    (term-last _ _ _ (c .before .before .before .before .before .before .before .before .if1 .left)
+    (sym (c .before .before .before .before .before .before .before .over-limit .ensures) ∙ c .before .before .before .before .before .before .if2 .left)
+    (c .before .before .before .before .if3 .left)
+    (c .before .before .if4 .left)
+    (sym (c .before .too-deep .ensures) ∙ c .if5 .left))
 
 pub term-refusal-spec : {M : Type 1} → statement M
 term-refusal-spec =
@@ -50,7 +60,6 @@ term-refusal-spec =
     returns-2
     returns-3
     returns-4
+    too-deep-requires
     returns-5
-    returns-6
-    returns-7
-    returns-8)
+    returns-6)

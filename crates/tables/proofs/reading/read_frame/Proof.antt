@@ -1,83 +1,91 @@
+-- `tables::reading::read_frame` meets its contract. The tag tells the shape, and the count of bytes whether the line has it.
+-- Assumes nothing.
+use mathlib.Core.Path.{refl}
+use Rattle.tables.proofs.Frames.{tagged, fits, misfits, opening, definition, closing, no-tag, byte-read, number-read}
 use borrow.Author.Needs.{needs}
 use Rattle.tables.proofs.reading.read_frame.Statement.{statement}
 use Rattle.tables.proofs.reading.read_frame.Tie as tie
-use Rattle.tables.proofs.reading.read_frame.Reads as reads
-use Rattle.tables.proofs.reading.read_frame.Lts as lts
-use Rattle.lines.proofs.byte.Reads as byte-reads
-use Rattle.lines.proofs.number.Reads as number-reads
-use Rattle.tables.proofs.reading.read_term.Reads as read-term-reads
 
--- src/reading.rt:27:9
 byte-requires : tie.Need-byte-requires
 byte-requires c κs = search needs
 
--- src/reading.rt:29:9
 read-term-requires : tie.Need-read-term-requires
 read-term-requires c κs = search needs
 
--- src/reading.rt:29:9
 returns : tie.Need-returns
-returns c = ?
+returns c = λ bs stands. c .read-term .ensures bs stands (tagged _ bs stands (c .before .before .byte .ensures) (c .before .if1 .taken))
 
--- src/reading.rt:33:13
 returns-2 : tie.Need-returns-2
-returns-2 c = ?
+returns-2 c = λ bs stands.
+    misfits _ bs stands (definition bs refl)
+    (tagged _ bs stands (c .before .before .before .byte .ensures) (c .before .if2 .taken))
+    (c .if3 .taken)
 
--- src/reading.rt:35:34
 byte-requires-2 : tie.Need-byte-requires-2
 byte-requires-2 c κs = search needs
 
--- src/reading.rt:35:9
 returns-3 : tie.Need-returns-3
-returns-3 c = ?
+returns-3 c = λ bs stands.
+    fits _ bs stands (definition bs (byte-read _ bs stands 1 (c .byte2 .ensures)))
+    (tagged _ bs stands (c .before .before .before .before .byte .ensures) (c .before .before .if2 .taken))
+    (c .before .if3 .left)
 
--- src/reading.rt:39:13
 returns-4 : tie.Need-returns-4
-returns-4 c = ?
+returns-4 c = λ bs stands.
+    misfits _ bs stands (closing bs refl)
+    (tagged _ bs stands (c .before .before .before .before .byte .ensures) (c .before .if4 .taken))
+    (c .if5 .taken)
 
--- src/reading.rt:41:38
 sub-number : tie.Need-sub-number
 sub-number c = search needs
 
--- src/reading.rt:41:38
 part-number-start : tie.Need-part-number-start
 part-number-start c = search needs
 
--- src/reading.rt:41:38
 part-number-end : tie.Need-part-number-end
 part-number-end c = search needs
 
--- src/reading.rt:41:31
 number-requires : tie.Need-number-requires
 number-requires c κs = search needs
 
--- src/reading.rt:41:9
 returns-5 : tie.Need-returns-5
-returns-5 c = ?
+returns-5 c = λ bs stands.
+    fits _ bs stands (closing bs (number-read _ bs stands 1 (search needs) (c .number .ensures)))
+    (tagged _ bs stands (c .before .before .before .before .before .before .byte .ensures) (c .before .before .before .if4 .taken))
+    (c .before .before .if5 .left)
 
--- src/reading.rt:44:9
 returns-6 : tie.Need-returns-6
-returns-6 c = ?
+returns-6 c = λ bs stands.
+    no-tag bs (byte-read _ bs stands 0 (c .before .before .before .before .byte .ensures))
+    (c .before .before .before .if1 .left)
+    (c .before .before .if2 .left)
+    (c .before .if4 .left)
+    (c .if6 .taken)
 
--- src/reading.rt:47:9
 returns-7 : tie.Need-returns-7
-returns-7 c = ?
+returns-7 c = λ bs stands.
+    misfits _ bs stands (opening bs refl refl refl)
+    (tagged _ bs stands (c .before .before .before .before .before .byte .ensures) (c .before .if6 .left))
+    (c .if7 .taken)
 
--- src/reading.rt:50:18
 byte-requires-3 : tie.Need-byte-requires-3
 byte-requires-3 c κs = search needs
 
--- src/reading.rt:51:22
 byte-requires-4 : tie.Need-byte-requires-4
 byte-requires-4 c κs = search needs
 
--- src/reading.rt:52:17
 byte-requires-5 : tie.Need-byte-requires-5
 byte-requires-5 c κs = search needs
 
--- src/reading.rt:23:1
 returns-8 : tie.Need-returns-8
-returns-8 c = ?
+returns-8 c = λ bs stands.
+    fits _ bs stands
+    (opening bs
+    (byte-read _ bs stands 1 (c .before .before .byte3 .ensures))
+    (byte-read _ bs stands 2 (c .before .byte4 .ensures))
+    (byte-read _ bs stands 3 (c .byte5 .ensures)))
+    (tagged _ bs stands (c .before .before .before .before .before .before .before .before .byte .ensures) (c .before .before .before .before .if6 .left))
+    (c .before .before .before .if7 .left)
 
 pub read-frame-spec : {M : Type 1} → statement M
 read-frame-spec =

@@ -1,59 +1,66 @@
+-- `tables::reading::read_term` meets its contract. The kind tells the shape, and the count of bytes whether the line has it; a
+-- payload is at most eight bytes. Assumes nothing.
+use mathlib.Core.Path.{refl}
+use native.Mathlib.Omega.{arith}
+use Rattle.tables.proofs.Frames.{fits, misfits, term, no-kind, no-such-kind, payload-fits, byte-read, number-read}
 use borrow.Author.Needs.{needs}
 use Rattle.tables.proofs.reading.read_term.Statement.{statement}
 use Rattle.tables.proofs.reading.read_term.Tie as tie
-use Rattle.tables.proofs.reading.read_term.Reads as reads
-use Rattle.tables.proofs.reading.read_term.Lts as lts
-use Rattle.lines.proofs.byte.Reads as byte-reads
-use Rattle.lines.proofs.number.Reads as number-reads
-use Rattle.tables.proofs.kinds.payload_bytes.Reads as payload-bytes-reads
 
--- src/reading.rt:61:9
 byte-requires : tie.Need-byte-requires
 byte-requires c κs = search needs
 
--- src/reading.rt:63:9
 returns : tie.Need-returns
-returns c = ?
+returns c = λ bs stands tag. no-kind bs (byte-read _ bs stands 1 (c .before .byte .ensures)) tag (c .if1 .taken)
 
--- src/reading.rt:66:9
 returns-2 : tie.Need-returns-2
-returns-2 c = ?
+returns-2 c = λ bs stands tag.
+    no-such-kind bs (byte-read _ bs stands 1 (c .before .before .byte .ensures)) tag (c .before .if1 .left) (c .if2 .taken)
 
--- src/reading.rt:68:16
 payload-bytes-requires : tie.Need-payload-bytes-requires
 payload-bytes-requires c κs = search needs
 
--- src/reading.rt:68:16
 cast-want : tie.Need-cast-want
 cast-want c = search needs
 
--- src/reading.rt:68:16
 add-want : tie.Need-add-want
 add-want c = search needs
 
--- src/reading.rt:70:9
 returns-3 : tie.Need-returns-3
-returns-3 c = ?
+returns-3 c = λ bs stands tag.
+    misfits _ bs stands
+    (term bs (byte-read _ bs stands 1 (c .before .before .before .before .byte .ensures))
+    (c .before .before .before .if1 .left)
+    (c .before .before .if2 .left)
+    (c .before .payload-bytes .ensures)
+    refl)
+    tag
+    (c .if3 .taken)
 
--- src/reading.rt:74:25
 sub-number : tie.Need-sub-number
 sub-number c = search needs
 
--- src/reading.rt:74:25
 part-number-start : tie.Need-part-number-start
 part-number-start c = search needs
 
--- src/reading.rt:74:25
 part-number-end : tie.Need-part-number-end
 part-number-end c = search needs
 
--- src/reading.rt:74:18
 number-requires : tie.Need-number-requires
 number-requires c κs = search needs
 
--- src/reading.rt:57:1
 returns-4 : tie.Need-returns-4
-returns-4 c = ?
+returns-4 c = λ bs stands tag.
+    let small = payload-fits (c .before .before .before .before .before .before .byte .result) in
+    let payload = number-read _ bs stands 2 (omega (arith, c .before .before .before .payload-bytes .ensures)) (c .number .ensures) in
+    fits _ bs stands
+    (term bs (byte-read _ bs stands 1 (c .before .before .before .before .before .before .byte .ensures))
+    (c .before .before .before .before .before .if1 .left)
+    (c .before .before .before .before .if2 .left)
+    (c .before .before .before .payload-bytes .ensures)
+    payload)
+    tag
+    (c .before .before .if3 .left)
 
 pub read-term-spec : {M : Type 1} → statement M
 read-term-spec =
