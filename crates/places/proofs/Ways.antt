@@ -100,7 +100,7 @@ module _ (d : ℕ) (p : List ℕ) (f : ℕ) (ks xs : List ℕ) (i j : ℕ) where
           go (some w) h = let z : _≡_ {A = ℕ} 0 1 = cc in absurd (omega arith)
 
       pub way-down : (q : List ℕ) (r : Reached) (e : ℕ) → r ≡ Ends e → Leaves (d + 1) p (descended g ks xs m j) r q
-        → Leaves d p (descended f ks xs i j) (Ends e) (set q d x)
+          → Leaves d p (descended f ks xs i j) (Ends e) (set q d x)
       unfolding below reached digits
       way-down q r e k h = rw step (go (descended g ks xs m j) h)
         where
@@ -108,6 +108,7 @@ module _ (d : ℕ) (p : List ℕ) (f : ℕ) (ks xs : List ℕ) (i j : ℕ) where
           go none h = let z : _≡_ {A = ℕ} 0 1 = cc in absurd (omega arith)
           go (some w) h =
               let at : d + 1 + length w ≡ e = cc in
-              let end : e ≡ d + suc (length w) = omega arith in
-              (ap Ends end,
-               ap (λ (l : List ℕ). set l d x) (h .1) ∙ set-under p d (d + 1) x w (omega arith) ∙ ap (λ (k : ℕ). sets (set p d x) k w) (add-one d))
+              let end : e ≡ d + suc (length w) = omega arith in (
+                ap Ends end,
+                ap (λ (l : List ℕ). set l d x) (h .1) ∙ set-under p d (d + 1) x w (omega arith) ∙ ap (λ (k : ℕ). sets (set p d x) k w) (add-one d),
+              )

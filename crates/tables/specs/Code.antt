@@ -1,5 +1,5 @@
 -- What a line of a text says at a cursor, and what taking a frame in does to what the loop keeps. The path lengths of the terms due are `depth`, of the next, and behind it the
--- others in the array `waiting`, the last of them first. `proofs/Taking.antt` shows that it is what `taken` says.
+-- others in the array `waiting`, the last of them first. `proofs/Kept.antt` shows that it is what `taken` says.
 use Prim.Native.Nat.{ℕ, _+_, _-_, _≤_}
 use mathlib.Core.Path.{_≡_}
 use mathlib.Core.List.{List, [], _∷_, map}
