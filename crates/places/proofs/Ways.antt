@@ -59,7 +59,7 @@ set-under l i j x (w ∷ ws) h =
     ∙ ap (λ (m : List ℕ). sets m (suc j) ws) (set-comm l j i w x (λ e. omega arith))
 
 -- where the way ends, and what is written
-abbrev Leaves : ℕ → List ℕ → Option (List ℕ) → Reached → List ℕ → Type 0
+abbrev pub Leaves : ℕ → List ℕ → Option (List ℕ) → Reached → List ℕ → Type 0
 Leaves d p o r q = (r ≡ reached d o) × (q ≡ sets p d (digits o))
 
 module _ (d : ℕ) (p : List ℕ) (f : ℕ) (ks xs : List ℕ) (i j : ℕ) where

@@ -51,7 +51,7 @@ module _ (t : ℕ) where
   add-descend c = search needs
 
   descend-requires : descend-lts.Need-descend-requires (K t) (given t) descend.Post
-  descend-requires c κs = ?
+  descend-requires c κs = (omega arith, (omega arith, omega arith))
 
   enum-known-below : descend-lts.Need-enum-known-below (K t) (given t) descend.Post
   enum-known-below c = search needs
