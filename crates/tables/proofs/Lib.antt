@@ -13,3 +13,4 @@ pub mod Judged
 pub mod Loop
 pub mod Walked
 pub mod Whole
+pub mod Trees
