@@ -14,3 +14,4 @@ pub mod Loop
 pub mod Walked
 pub mod Whole
 pub mod Trees
+pub mod Held
