@@ -15,3 +15,4 @@ pub mod Walked
 pub mod Whole
 pub mod Trees
 pub mod Held
+pub mod Settled
