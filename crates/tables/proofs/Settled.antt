@@ -1,5 +1,5 @@
--- The promise of `check` settles its outcome: each of its six parts names one value, by the text and the columns at entry alone,
--- so two outcomes that it allows are equal. Assumes nothing.
+-- The promise of `check` settles its outcome: each of its six parts names one value, by the text and the columns at
+-- entry alone, so two outcomes that it allows are equal. Assumes nothing.
 use Prim.Native.Nat.{ℕ}
 use mathlib.Core.Path.{_≡_, sym, _∙_}
 use mathlib.Core.List.{List}
