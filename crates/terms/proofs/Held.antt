@@ -9,16 +9,16 @@ use native.Mathlib.Omega.{arith}
 use native.Mathlib.Nat.{add-zero, zero-add}
 use lib.ListN.{length, getD, getElem?, set, replicate, length-set, length-replicate}
 use lib.Seq.{getD-set-same, getD-set-other}
 use Rattle.tables.specs.Kind as Kind
 use Rattle.tables.specs.Kind.{subterms}
-use Rattle.tables.specs.Term.{Leaf, leaf-kind, leaf-payload, Operator, operator-kind, operator-payload}
-use Rattle.tables.specs.Term.{Term, leaf, prefix, binary, size, preorder, flat, starts}
-use Rattle.tables.specs.Term.{definitions-of, Holds}
+use Rattle.terms.specs.Term.{Leaf, leaf-kind, leaf-payload, Operator, operator-kind, operator-payload}
+use Rattle.terms.specs.Term.{Term, leaf, prefix, binary, size, preorder, flat, starts}
+use Rattle.terms.specs.Term.{definitions-of, Holds}
 use Rattle.tables.specs.Table.{Item, Sofar, accepted, judged, term-room}
 use Rattle.tables.specs.Columns.{column, kinds, payloads, owners, roots, past, walked, afters}
 use Rattle.tables.proofs.Walked.{past-none, past-one, past-two}
-use Rattle.tables.proofs.Trees.{leaf-subterms, operator-subterms, preorder-length, flat-length}
-use Rattle.tables.proofs.Trees.{IsTable, checked-trees}
+use Rattle.terms.proofs.Trees.{leaf-subterms, operator-subterms, preorder-length, flat-length}
+use Rattle.terms.proofs.Trees.{IsTable, checked-trees}
 
 pub size-some : (t : Term) → 0 < size t
 unfolding size
