@@ -13,7 +13,7 @@ use lib.Seq.{sets, set-comm}
 use lib.Dec.{ltb, leb, eqb}
 use borrow.Author.Tests.{ltb-true, lt-ltb, le-ltb, le-leb, lt-leb, eq-eqb, ne-eqb}
 use Rattle.lines.specs.Line.{choose}
-use Rattle.tables.specs.Kind.{subterms}
+use Rattle.frames.specs.Kind.{subterms}
 use Rattle.places.specs.Code.{look, next, digit, below, descended, reached, digits}
 use Rattle.places.specs.declared.Reached.{Reached}
 use Rattle.places.specs.declared.Reached.the-variants.{Ends, Astray}

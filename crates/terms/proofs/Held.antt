@@ -9,12 +9,13 @@ use native.Mathlib.Omega.{arith}
 use native.Mathlib.Nat.{add-zero, zero-add}
 use lib.ListN.{length, getD, getElem?, set, replicate, length-set, length-replicate}
 use lib.Seq.{getD-set-same, getD-set-other}
-use Rattle.tables.specs.Kind as Kind
-use Rattle.tables.specs.Kind.{subterms}
+use Rattle.frames.specs.Kind as Kind
+use Rattle.frames.specs.Kind.{subterms}
 use Rattle.terms.specs.Term.{Leaf, leaf-kind, leaf-payload, Operator, operator-kind, operator-payload}
 use Rattle.terms.specs.Term.{Term, leaf, prefix, binary, size, preorder, flat, starts}
 use Rattle.terms.specs.Term.{definitions-of, Holds}
-use Rattle.tables.specs.Table.{Item, Sofar, accepted, judged, term-room}
+use Rattle.frames.specs.TableFrame.{term-room}
+use Rattle.tables.specs.Table.{Item, Sofar, accepted, judged}
 use Rattle.tables.specs.Columns.{column, kinds, payloads, owners, roots, past, walked, afters}
 use Rattle.tables.proofs.Walked.{past-none, past-one, past-two}
 use Rattle.terms.proofs.Trees.{leaf-subterms, operator-subterms, preorder-length, flat-length}

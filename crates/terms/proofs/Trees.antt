@@ -14,20 +14,22 @@ use lib.Dec.{leb, eqb}
 use borrow.Author.Tests.{leb-true, eqb-true}
 use Rattle.lines.specs.Line.{choose, number, Raw, frame, lines}
 use Rattle.lines.proofs.Digits.{both}
-use Rattle.tables.specs.Kind as Kind
-use Rattle.tables.specs.Kind.{known, payload-bytes, subterms}
+use Rattle.frames.specs.Kind as Kind
+use Rattle.frames.specs.Kind.{known, payload-bytes, subterms}
 use Rattle.terms.specs.Term.{Leaf, call, SKIP, STOP, Operator, internal, external, sequence, parallel}
 use Rattle.terms.specs.Term.{Term, leaf, prefix, binary, leaf-kind, leaf-payload, leaf-of}
 use Rattle.terms.specs.Term.{operator-kind, operator-payload, operator-of, size, preorder, flat, starts}
 use Rattle.terms.specs.Term.{grown, trees, definitions-of, Shallow, LeafWithin, OperatorWithin, Within}
-use Rattle.tables.specs.Table.{Item, Sofar, next-due, seen, limit, longest, refusal, first-refusal, taken}
-use Rattle.tables.specs.Table.{unopened, closes, frame-of, held, verdict, Judged, accepted, refused}
+use Rattle.frames.specs.TableFrame.{limit, longest, refusal, first-refusal}
+use Rattle.tables.specs.Table.{Item, Sofar, next-due, seen, taken}
+use Rattle.frames.specs.TableFrame.{closes, frame-of}
+use Rattle.tables.specs.Table.{unopened, held, verdict, Judged, accepted, refused}
 use Rattle.tables.specs.Table.{behind, rest, from-first, judged, text-room}
 use Rattle.tables.specs.Code.{begins}
-use Rattle.tables.specs.declared.Frame.{Frame}
-use Rattle.tables.specs.declared.Frame.the-variants.{Opening, Definition, Term as TermLine, Closing, Wrong}
-use Rattle.tables.specs.declared.Seen.{Seen}
-use Rattle.tables.proofs.Fine.{FineTerm, fine-term, depth-fits, fine-definition, fine-closing}
+use Rattle.frames.specs.declared.Frame.{Frame}
+use Rattle.frames.specs.declared.Frame.the-variants.{Opening, Definition, Term as TermLine, Closing, Wrong}
+use Rattle.frames.specs.declared.Seen.{Seen}
+use Rattle.frames.proofs.Fine.{FineTerm, fine-term, depth-fits, fine-definition, fine-closing}
 
 abbrev item : ℕ → ℕ → ℕ → Item
 item d k p = record { definition = d; kind = k; payload = p }

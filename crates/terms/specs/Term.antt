@@ -6,7 +6,7 @@ use mathlib.Core.List.{List, [], _∷_, _++_}
 use lib.ListN.{length, getD}
 use lib.Dec.{eqb}
 use Rattle.lines.specs.Line.{choose}
-use Rattle.tables.specs.Kind as Kind
+use Rattle.frames.specs.Kind as Kind
 use Rattle.tables.specs.Table.{Item, Sofar}
 
 -- what has no subterm

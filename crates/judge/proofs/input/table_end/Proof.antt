@@ -1,13 +1,8 @@
 use borrow.Author.Needs.{needs}
-use Prim.Native.Nat.{ℕ, _≤_, _-_}
-use mathlib.Core.Path.{_≡_}
+use Prim.Native.Nat.{_≤_, _-_}
 use lib.ListN.{length}
 use Rattle.judge.proofs.input.table_end.Statement.{statement}
 use Rattle.judge.proofs.input.table_end.Tie as tie
-use Rattle.judge.proofs.input.table_end.Reads as reads
-use Rattle.judge.proofs.input.table_end.Lts as lts
-use Rattle.judge.proofs.input.line_end.Reads as line-end-reads
-use Rattle.judge.proofs.input.starts_1f.Reads as starts-1f-reads
 
 abbrev Inv-loop : tie.InvT-loop
 Inv-loop text at₀ at = at ≤ length text
@@ -15,31 +10,24 @@ Inv-loop text at₀ at = at ≤ length text
 abbrev μ-loop : tie.MeasureT-loop
 μ-loop text at₀ at = length text - at
 
--- src/input.rt:12:5
 loop-holds : tie.Need-loop-holds Inv-loop μ-loop
 loop-holds c = search needs
 
--- src/input.rt:13:13
 line-end-requires : tie.Need-line-end-requires Inv-loop μ-loop
 line-end-requires c κs = search needs
 
--- src/input.rt:14:12
 starts-1f-requires : tie.Need-starts-1f-requires Inv-loop μ-loop
 starts-1f-requires c κs = search needs
 
--- src/input.rt:15:13
 returns : tie.Need-returns Inv-loop μ-loop
 returns c = search needs
 
--- src/input.rt:12:5
 loop-less : tie.Need-loop-less Inv-loop μ-loop
 loop-less c = search needs
 
--- src/input.rt:12:5
 loop-again : tie.Need-loop-again Inv-loop μ-loop
 loop-again c = search needs
 
--- src/input.rt:8:1
 returns-2 : tie.Need-returns-2 Inv-loop μ-loop
 returns-2 c = search needs
 

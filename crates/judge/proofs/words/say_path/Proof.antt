@@ -1,12 +1,7 @@
 use borrow.Author.Needs.{needs}
-use Prim.Native.Nat.{ℕ, _≤_, _-_}
-use mathlib.Core.Path.{_≡_}
-use lib.ListN.{length}
+use Prim.Native.Nat.{_≤_, _-_}
 use Rattle.judge.proofs.words.say_path.Statement.{statement}
 use Rattle.judge.proofs.words.say_path.Tie as tie
-use Rattle.judge.proofs.words.say_path.Reads as reads
-use Rattle.judge.proofs.words.say_path.Lts as lts
-use Rattle.judge.proofs.words.say_digit.Reads as say-digit-reads
 
 abbrev Inv-loop : tie.InvT-loop
 Inv-loop path count i₀ i = i ≤ 64
@@ -14,35 +9,27 @@ Inv-loop path count i₀ i = i ≤ 64
 abbrev μ-loop : tie.MeasureT-loop
 μ-loop path count i₀ i = 64 - i
 
--- src/words.rt:188:5
 loop-holds : tie.Need-loop-holds Inv-loop μ-loop
 loop-holds c = search needs
 
--- src/words.rt:190:13
 returns : tie.Need-returns Inv-loop μ-loop
 returns c = search needs
 
--- src/words.rt:192:19
 element-copy-out-say-digit : tie.Need-element-copy-out-say-digit Inv-loop μ-loop
 element-copy-out-say-digit c = search needs
 
--- src/words.rt:192:9
 say-digit-requires : tie.Need-say-digit-requires Inv-loop μ-loop
 say-digit-requires c κs = search needs
 
--- src/words.rt:193:9
 add-i : tie.Need-add-i Inv-loop μ-loop
 add-i c = search needs
 
--- src/words.rt:188:5
 loop-less : tie.Need-loop-less Inv-loop μ-loop
 loop-less c = search needs
 
--- src/words.rt:188:5
 loop-again : tie.Need-loop-again Inv-loop μ-loop
 loop-again c = search needs
 
--- src/words.rt:186:1
 returns-2 : tie.Need-returns-2 Inv-loop μ-loop
 returns-2 c = search needs
 
