@@ -14,9 +14,6 @@ import itertools
 import multiprocessing
 import os
 import pathlib
-import platform
-import shutil
-import subprocess
 import sys
 import tempfile
 import time
@@ -24,85 +21,14 @@ from typing import NamedTuple
 
 import generate
 import independent
+from programs import Answer, answer_of, binary_of, prepare
 
-REPOSITORY = pathlib.Path(__file__).resolve().parent.parent
 WORKERS = 2
 INPUTS_AT_A_TIME = 20
-SECONDS_FOR_ONE_INPUT = 30
 SECONDS_BETWEEN_WORDS = 5
 SHORT_INPUT = 1_000  # bytes that are shown as they are
 LINES_SHOWN = 24
 COLUMN = 72
-NOBODY = 65_534
-
-
-# ---- running a program as the kit's rt does
-
-
-class Started(NamedTuple):
-    """How a program is started: the words of the command and the folder it runs in."""
-
-    command: list
-    folder: str
-
-
-def find_toolchain():
-    """The kit's folder for this machine's processor, found through the rt on the PATH."""
-    rt = shutil.which("rt")
-    if rt is None:
-        sys.exit("differential: no rt on the PATH")
-    kit = os.environ.get("RATTLE_HOME") or pathlib.Path(rt).resolve().parent.parent
-    return pathlib.Path(kit) / "on" / platform.machine() / "toolchain"
-
-
-def prepare(program, room):
-    """Puts a copy of the program into the room, outside the repository, and says how to start it there.
-
-    Programs are for x86-64: on another processor the kit has an emulator. Root runs them as nobody.
-    """
-    own, data = room / "own", room / "data"
-    own.mkdir()
-    data.mkdir()
-    copy = own / "program"
-    shutil.copy(program, copy)
-    tools = find_toolchain()
-    emulator = tools / "bin" / "qemu-x86_64"
-    command = [str(emulator)] if os.access(emulator, os.X_OK) else []
-    command += [str(tools / "lib" / "ld-linux-x86-64.so.2"), "--library-path", str(tools / "lib"), str(copy)]
-    if os.getuid() == 0:
-        drop = ["setpriv", f"--reuid={NOBODY}", f"--regid={NOBODY}", "--clear-groups", "--no-new-privs"]
-        command = drop + command
-        room.chmod(0o711)
-        own.chmod(0o755)
-        copy.chmod(0o755)
-        os.chown(data, NOBODY, NOBODY)
-    return Started(command, str(data))
-
-
-class Answer(NamedTuple):
-    """What a program printed, and how it ended where that was not well."""
-
-    output: bytes
-    trouble: str
-
-
-def answer_of(started, given):
-    environment = {name: value for name, value in os.environ.items() if not name.startswith("QEMU_")}
-    try:
-        ended = subprocess.run(
-            started.command,
-            input=given,
-            capture_output=True,
-            cwd=started.folder,
-            env=environment,
-            timeout=SECONDS_FOR_ONE_INPUT,
-            check=False,
-        )
-    except subprocess.TimeoutExpired as expired:
-        return Answer(expired.stdout or b"", f"no end after {SECONDS_FOR_ONE_INPUT} seconds")
-    if ended.returncode != 0:
-        return Answer(ended.stdout, f"status {ended.returncode} {ended.stderr.decode('latin-1')}".strip())
-    return Answer(ended.stdout, "")
 
 
 # ---- comparing
@@ -186,7 +112,7 @@ def tell_difference(program, seed, compared):
 
 def run(program, seed, first, count):
     """The whole run; gives the exit status."""
-    binary = REPOSITORY / "target" / "bin" / program
+    binary = binary_of(program)
     if not binary.is_file():
         print(f"differential: there is no target/bin/{program}; `rt check` makes it", file=sys.stderr)
         return 2
