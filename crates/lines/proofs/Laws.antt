@@ -18,7 +18,7 @@ use Rattle.lines.specs.Code.{run, part, byteAt, byteOf, numberOf}
 use Rattle.lines.specs.declared.Line.{Line}
 use Rattle.lines.specs.declared.Line.the-variants.{Found, NoLine, End}
 use Rattle.lines.proofs.Line.{enum}
-use Rattle.lines.proofs.Digits.{Digits, Split, split, lines-full, lines-open, lines-start, frame-broken, bytes-even, bytes-odd, pair-some}
+use Rattle.lines.proofs.Digits.{Digits, Split, split, lines-full, lines-open, lines-start, frame-broken, bytes-even, bytes-odd, pair-some, value-digit}
 
 -- at the end of the text there is no line left
 pub answer-end : (s : List ℕ) (at : ℕ) → length s ≤ at → answer at (lines (drop at s)) ≡ End
@@ -287,6 +287,10 @@ bytes-length (h ∷ l ∷ cs) bs e =
     let n = bytes-length cs (r .2 .0) (r .2 .1) in
     rw (r .2 .2) (omega arith)
 
+-- two digits are the byte that they stand for
+byte-digits : (h l : ℕ) → digit h < 16 → digit l < 16 → byteOf h l ≡ digit h * 16 + digit l
+byte-digits h l p q = rw (value-digit h p, value-digit l q) (omega arith)
+
 -- byte number k of a line is what `byte` reads
 byte-later : (h l : ℕ) (cs : List ℕ) (k : ℕ) → byteAt (h ∷ l ∷ cs) (suc k) ≡ byteAt cs k
 unfolding byteAt
@@ -305,7 +309,7 @@ byte-is [] bs k e = let n : bs ≡ [] = cc in rw n (simp (le-leb 0 k (omega arit
 byte-is (h ∷ []) bs k e = let z : _≡_ {A = ℕ} 0 1 = cc in absurd (omega arith)
 byte-is (h ∷ l ∷ cs) bs zero e =
     let r = pair-some (digit h) (digit l) (bytes cs) bs e in
-    rw (r .2 .2) (simp (lt-leb (suc (suc (length cs)) / 2) 0 (omega arith)) (omega arith))
+    rw (r .2 .2) (simp (lt-leb (suc (suc (length cs)) / 2) 0 (omega arith)) (byte-digits h l (r .0) (r .1)))
 byte-is (h ∷ l ∷ cs) bs (suc k) e =
     let r = pair-some (digit h) (digit l) (bytes cs) bs e in
     byte-later h l cs k ∙ rw (r .2 .2) (byte-is cs (r .2 .0) k (r .2 .1))
@@ -368,7 +372,8 @@ number-fits (a ∷ b ∷ cs) bs n e h =
     let r = pair-some (digit a) (digit b) (bytes cs) bs e in
     let k : most (n * 256 + 255) (length (r .2 .0)) < 18446744073709551616 = rw (r .2 .2) at h in
     let u : n * 256 + 255 ≤ most (n * 256 + 255) (length (r .2 .0)) = most-above (length (r .2 .0)) (n * 256 + 255) in
-    let low : n % 72057594037927936 * 256 + byteOf a b ≡ n * 256 + (digit a * 16 + digit b) = omega arith in
+    let low : n % 72057594037927936 * 256 + byteOf a b ≡ n * 256 + (digit a * 16 + digit b) =
+    rw (byte-digits a b (r .0) (r .1)) (omega arith) in
     let m : most (n * 256 + (digit a * 16 + digit b)) (length (r .2 .0)) ≤ most (n * 256 + 255) (length (r .2 .0)) = most-mono (length (r .2 .0)) (omega arith) in
     rw (r .2 .2, low) (number-fits cs (r .2 .0) (n * 256 + (digit a * 16 + digit b)) (r .2 .1) (omega arith))
 

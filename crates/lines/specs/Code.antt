@@ -15,9 +15,13 @@ run (c ∷ cs) = choose (leb 16 (digit c)) 0 (suc (run cs))
 unfoldable pub part : List ℕ → ℕ → ℕ → List ℕ
 part s a e = choose (leb a e && leb e (length s)) (take (e - a) (drop a s)) []
 
--- the byte of two characters
+-- what a digit counts, by arithmetic alone
+abbrev pub value : ℕ → ℕ
+value c = c % 16 + c / 64 * 9
+
+-- the byte of two characters that are digits
 abbrev pub byteOf : ℕ → ℕ → ℕ
-byteOf h l = digit h % 16 * 16 + digit l % 16
+byteOf h l = value h % 16 * 16 + value l % 16
 
 -- byte number k, and 0 where the characters have no such byte
 unfoldable pub byteAt : List ℕ → ℕ → ℕ

@@ -4,7 +4,7 @@ ghost use mathlib.Core.Path.{_≡_};
 ghost use Prim.Native.Nat.{ℕ, _+_, _*_, _-_, _≤_, _<_};
 ghost use lib.ListN.{length, take, drop, getD};
 ghost use Rattle.lines.specs.Line.{digit, lines, answer, refusal};
-ghost use Rattle.lines.specs.Code.{run, part, byteOf, byteAt, numberOf};
+ghost use Rattle.lines.specs.Code.{run, part, value, byteOf, byteAt, numberOf};
 
 const LF: u8 = 10;
 
@@ -126,9 +126,16 @@ pub fn number(chars: &[u8]) -> u64
     number
 }
 
-// The byte of two characters.
+// The byte of two characters that are digits.
 fn byte_of(high: u8, low: u8) -> u8
     ensures { λ r. ⌜ r ≡ byteOf high low ⌝ }
 {
-    digit_value(high) % 16 * 16 + digit_value(low) % 16
+    value_of(high) % 16 * 16 + value_of(low) % 16
+}
+
+// What a digit counts, with no test.
+fn value_of(c: u8) -> u8
+    ensures { λ r. ⌜ r ≡ value c ⌝ }
+{
+    c % 16 + c / 64 * 9
 }
