@@ -1,3 +1,5 @@
--- Laws of places: `Ways` of following terms downward, a step at a time; `Ends` of what each kind of literal's path is.
+-- Laws of places: `Ways` of following terms downward, a step at a time; `Literals` of the path of each kind of literal; `Laws` of
+-- what a caller may rely on.
 pub mod Ways
 pub mod Literals
+pub mod Laws

@@ -58,18 +58,31 @@ set-under l i j x (w ∷ ws) h =
     set-under (set l j w) i (suc j) x ws (omega arith)
     ∙ ap (λ (m : List ℕ). sets m (suc j) ws) (set-comm l j i w x (λ e. omega arith))
 
+-- the way is at its end, or takes one step more
+module _ (f : ℕ) (ks xs : List ℕ) (i j : ℕ) where
+  pub descended-here : i ≡ j → descended f ks xs i j ≡ some []
+  unfolding descended
+  descended-here e = go f
+    where
+      go : (f : ℕ) → descended f ks xs i j ≡ some []
+      go zero = simp (eq-eqb i j e)
+      go (suc f) = simp (eq-eqb i j e)
+
+  module _ (away : i ≡ j → ⊥) (g n x m : ℕ) (more : f ≡ suc g) (count : n ≡ subterms (look 1024 ks i))
+      (some-of : n ≡ 0 → ⊥) (x-is : x ≡ digit n xs i j) (m-is : m ≡ next n xs i j) where
+    pub descended-step : descended f ks xs i j ≡ below x (descended g ks xs m j)
+    unfolding descended
+    descended-step = rw (more, x-is, m-is, count)
+        (simp (ne-eqb i j away, ne-eqb (subterms (look 1024 ks i)) 0 (λ z. some-of (count ∙ z))))
+
 -- where the way ends, and what is written
 abbrev pub Leaves : ℕ → List ℕ → Option (List ℕ) → Reached → List ℕ → Type 0
 Leaves d p o r q = (r ≡ reached d o) × (q ≡ sets p d (digits o))
 
 module _ (d : ℕ) (p : List ℕ) (f : ℕ) (ks xs : List ℕ) (i j : ℕ) where
   pub way-done : i ≡ j → Leaves d p (descended f ks xs i j) (Ends d) p
-  unfolding descended reached digits
-  way-done e = go f
-    where
-      go : (f : ℕ) → Leaves d p (descended f ks xs i j) (Ends d) p
-      go zero = simp (eq-eqb i j e) (ap Ends (sym (add-zero d)), refl)
-      go (suc f) = simp (eq-eqb i j e) (ap Ends (sym (add-zero d)), refl)
+  unfolding reached digits
+  way-done e = rw (descended-here f ks xs i j e) (ap Ends (sym (add-zero d)), refl)
 
   module _ (away : i ≡ j → ⊥) where
     pub way-short : f ≡ 0 → Leaves d p (descended f ks xs i j) Astray p
@@ -87,9 +100,7 @@ module _ (d : ℕ) (p : List ℕ) (f : ℕ) (ks xs : List ℕ) (i j : ℕ) where
     module _ (g n x m : ℕ) (more : f ≡ suc g) (count : n ≡ subterms (look 1024 ks i)) (some-of : n ≡ 0 → ⊥)
         (x-is : x ≡ digit n xs i j) (m-is : m ≡ next n xs i j) where
       step : descended f ks xs i j ≡ below x (descended g ks xs m j)
-      unfolding descended
-      step = rw (more, x-is, m-is, count)
-          (simp (ne-eqb i j away, ne-eqb (subterms (look 1024 ks i)) 0 (λ z. some-of (count ∙ z))))
+      step = descended-step f ks xs i j away g n x m more count some-of x-is m-is
 
       pub way-astray : (q : List ℕ) (r : Reached) → r ≡ Astray → Leaves (d + 1) p (descended g ks xs m j) r q → Leaves d p (descended f ks xs i j) r q
       unfolding below reached digits

@@ -22,6 +22,23 @@ path-in (prefix e t) (suc n) = 2 ∷ path-in t n
 path-in (binary o t u) zero = []
 path-in (binary o t u) (suc n) = choose (ltb n (size t)) (1 ∷ path-in t n) (2 ∷ path-in u (n - size t))
 
+-- number n itself
+unfoldable pub term-at : Term → ℕ → Term
+term-at (leaf l) n = leaf l
+term-at (prefix e t) zero = prefix e t
+term-at (prefix e t) (suc n) = term-at t n
+term-at (binary o t u) zero = binary o t u
+term-at (binary o t u) (suc n) = choose (ltb n (size t)) (term-at t n) (term-at u (n - size t))
+
+abbrev pub IsPrefix : Term → Type 0
+IsPrefix (leaf l) = ⊥
+IsPrefix (prefix e t) = Unit {0}
+IsPrefix (binary o t u) = ⊥
+
+-- number n is a prefix, which a number past the last is not
+abbrev pub PrefixAt : Term → ℕ → Type 0
+PrefixAt t n = IsPrefix (term-at t n)
+
 -- the path of an event, below its prefix
 abbrev pub event-path : List ℕ → List ℕ
 event-path w = w ++ (1 ∷ [])
