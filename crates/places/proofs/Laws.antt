@@ -1,7 +1,7 @@
--- What a caller may rely on. A term's numbers are reached side by side: number 0 is the term itself, and any other stands in one of
--- its sides, which has a digit and a first number. An induction over that shows that each literal of a term has exactly one place,
--- of at most 64 digits, and that following columns which hold a term gives its paths. Assumes nothing.
-use Prim.Native.Nat.{ℕ, zero, suc, _+_, _-_, _≤_, _<_}
+-- What a caller may rely on. By induction over the sides of terms each literal of a term has exactly one place, of at most 64
+-- digits, and following columns which hold a term gives its paths; so the door `place` answers with the places of a table's
+-- literals, and its promise leaves no choice. Assumes nothing.
+use Prim.Native.Nat.{ℕ, zero, suc, _+_, _≤_, _<_}
 use mathlib.Core.Path.{_≡_, refl, sym, ap, _∙_}
 use mathlib.Core.Bool.{Bool, true, false}
 use mathlib.Core.List.{List, [], _∷_, _++_, append-nil}
@@ -9,105 +9,30 @@ use mathlib.Core.Option.{Option, none, some}
 use mathlib.Core.Logic.{_↔_}
 use native.Mathlib.Omega.{arith}
 use native.Mathlib.Nat.{add-zero, add-assoc}
+use native.Mathlib.Numerals.{add-one}
 use lib.ListN.{length, getD, getElem?, length-append}
-use lib.Seq.{sets}
-use lib.Dec.{ltb, eqb}
-use borrow.Author.Tests.{ltb-true, ltb-false, lt-ltb, le-ltb, eqb-true, eq-eqb, ne-eqb}
+use lib.Dec.{eqb}
+use borrow.Author.Tests.{eqb-true, eq-eqb, ne-eqb}
 use Rattle.lines.specs.Line.{choose}
 use Rattle.tables.specs.Kind as Kind
 use Rattle.tables.specs.Kind.{subterms}
-use Rattle.tables.specs.Term.{Leaf, call, SKIP, STOP, Operator, internal, external, sequence, parallel, Term, leaf, prefix, binary, leaf-kind, operator-kind, size, Shallow, Holds}
-use Rattle.places.specs.Place.{path-in, term-at, IsPrefix, PrefixAt, event-path, left-path, Literal, own, event, shifted, event-end, literal-at}
-use Rattle.places.specs.Code.{Columns, look, next, digit, below, descended, digits, path-of, with-event, event-of, literal-path, literal-definition, told, answer}
+use Rattle.tables.specs.Term.{Term, leaf, prefix, binary, size, Shallow, Holds}
+use Rattle.tables.specs.Term.{Leaf, call, SKIP, STOP, leaf-kind}
+use Rattle.tables.specs.Term.{Operator, internal, external, sequence, parallel, operator-kind}
+use Rattle.places.specs.Place.{path-in, term-at, IsPrefix, PrefixAt, event-path, left-path}
+use Rattle.places.specs.Place.{Literal, own, event, shifted, event-end, literal-at}
+use Rattle.places.specs.Code.{Columns, look, next, digit, below, descended, path-of, with-event, event-of}
+use Rattle.places.specs.Code.{literal-path, literal-definition, told, answer}
+use Rattle.places.specs.declared.Literal.{Literal as Asked}
 use Rattle.places.specs.declared.Literal.the-variants.{Left, Own, Event}
 use Rattle.places.specs.declared.Placed.{Placed}
 use Rattle.places.specs.declared.Placed.the-variants.{At, Nowhere}
+use Rattle.places.proofs.Sides.{Side, only, first, second, by-number, path-root, term-root, literal-root}
+use Rattle.places.proofs.Sides.{side-first, side-inside, side-at, side-literal, side-shallow, prefix-inside}
 use Rattle.places.proofs.Ways.{look-in, step-only, step-first, step-second, descended-here, descended-step}
+use Rattle.places.proofs.Literals.{Places}
 
--- a side of a term: its digit, and the number that its own number 0 has in the term
-data Side : Term → ℕ → ℕ → Term → Type 0 where
-  only : (e : ℕ) (t : Term) → Side (prefix e t) 2 1 t
-  first : (o : Operator) (t u : Term) → Side (binary o t u) 1 1 t
-  second : (o : Operator) (t u : Term) → Side (binary o t u) 2 (1 + size t) u
-
--- numbers inside a term: the term itself, and inwards by its sides
-module _ (P : Term → ℕ → Type 0) (itself : (t : Term) → P t 0)
-    (inward : (T t : Term) (x k n : ℕ) → Side T x k t → n < size t → P t n → P T (k + n)) where
-  by-number : (t : Term) (n : ℕ) → n < size t → P t n
-  unfolding size
-  by-number (leaf l) n h = let z : n ≡ 0 = omega arith in rw z (itself (leaf l))
-  by-number (prefix e t) zero h = itself (prefix e t)
-  by-number (prefix e t) (suc n) h =
-      let m : suc n ≡ 1 + n = omega arith in
-      rw m (inward _ t 2 1 n (only e t) (omega arith) (by-number t n (omega arith)))
-  by-number (binary o t u) zero h = itself (binary o t u)
-  by-number (binary o t u) (suc n) h = go (ltb n (size t)) refl (by-number t n) (by-number u (n - size t))
-    where
-      go : (b : Bool) → ltb n (size t) ≡ b → (n < size t → P t n) → (n - size t < size u → P u (n - size t)) → P (binary o t u) (suc n)
-      go true e left right =
-          let i : n < size t = ltb-true n (size t) e in
-          let m : suc n ≡ 1 + n = omega arith in
-          rw m (inward _ t 1 1 n (first o t u) i (left i))
-      go false e left right =
-          let i : size t ≤ n = ltb-false n (size t) e in
-          let m : suc n ≡ 1 + size t + (n - size t) = omega arith in
-          rw m (inward _ u 2 (1 + size t) (n - size t) (second o t u) (omega arith) (right (omega arith)))
-
-one-more : (n : ℕ) → 1 + n ≡ suc n
-one-more n = omega arith
-
--- what a side says of the term's numbers
-side-first : {T t : Term} {x k : ℕ} → Side T x k t → 0 < k
-side-first (only e t) = omega arith
-side-first (first o t u) = omega arith
-side-first (second o t u) = omega arith
-
-side-inside : {T t : Term} {x k : ℕ} → Side T x k t → k + size t ≤ size T
-unfolding size
-side-inside (only e t) = omega arith
-side-inside (first o t u) = omega arith
-side-inside (second o t u) = omega arith
-
-side-at : {T t : Term} {x k : ℕ} (n : ℕ) → Side T x k t → n < size t
-    → (path-in T (k + n) ≡ x ∷ path-in t n) × (term-at T (k + n) ≡ term-at t n)
-unfolding path-in term-at
-side-at n (only e t) h = rw (one-more n) (refl, refl)
-side-at n (first o t u) h = rw (one-more n) (simp (lt-ltb n (size t) h) (refl, refl))
-side-at n (second o t u) h =
-    let m : 1 + size t + n ≡ suc (size t + n) = omega arith in
-    let b : size t + n - size t ≡ n = omega arith in
-    rw m (simp (le-ltb (size t + n) (size t) (omega arith), b) (refl, refl))
-
-side-literal : {T t : Term} {x k : ℕ} (w : List ℕ) → Side T x k t → literal-at T (x ∷ w) ≡ shifted k (literal-at t w)
-unfolding literal-at
-side-literal w (only e t) = refl
-side-literal w (first o t u) = refl
-side-literal w (second o t u) = refl
-
-side-shallow : {T t : Term} {x k : ℕ} (d : ℕ) → Side T x k t → Shallow d T → Shallow (d + 1) t
-side-shallow d (only e t) h = h .1
-side-shallow d (first o t u) h = h .1 .0
-side-shallow d (second o t u) h = h .1 .1
-
--- number 0
-path-root : (t : Term) → path-in t 0 ≡ []
-unfolding path-in
-path-root (leaf l) = refl
-path-root (prefix e t) = refl
-path-root (binary o t u) = refl
-
-term-root : (t : Term) → term-at t 0 ≡ t
-unfolding term-at
-term-root (leaf l) = refl
-term-root (prefix e t) = refl
-term-root (binary o t u) = refl
-
-literal-root : (t : Term) → literal-at t [] ≡ some (own 0)
-unfolding literal-at
-literal-root (leaf l) = refl
-literal-root (prefix e t) = refl
-literal-root (binary o t u) = refl
-
+-- literals numbered from another start
 shifted-zero : (o : Option Literal) → shifted 0 o ≡ o
 unfolding shifted
 shifted-zero none = refl
@@ -127,26 +52,14 @@ below-path =
     by-number (λ t n. (v : List ℕ) → literal-at t (path-in t n ++ v) ≡ shifted n (literal-at (term-at t n) v))
     (λ t v. rw (path-root t, term-root t) (sym (shifted-zero (literal-at t v))))
     λ T t x k n s h further v.
-    rw (side-at n s h .0, side-at n s h .1) (side-literal (path-in t n ++ v) s ∙ ap (shifted k) (further v) ∙ shifted-again k n _)
+    rw (side-at n s h .0, side-at n s h .1)
+    (side-literal (path-in t n ++ v) s ∙ ap (shifted k) (further v) ∙ shifted-again k n _)
 
 event-below : (t : Term) → IsPrefix t → literal-at t (1 ∷ []) ≡ some (event 0)
 unfolding literal-at event-end
 event-below (leaf l) p = absurd p
 event-below (prefix e t) p = refl
 event-below (binary o t u) p = absurd p
-
-prefix-inside : (t : Term) (n : ℕ) → PrefixAt t n → n < size t
-unfolding term-at size
-prefix-inside (leaf l) n p = absurd p
-prefix-inside (prefix e t) zero p = omega arith
-prefix-inside (prefix e t) (suc n) p = let h = prefix-inside t n p in omega arith
-prefix-inside (binary o t u) zero p = absurd p
-prefix-inside (binary o t u) (suc n) p = go (ltb n (size t)) refl p (prefix-inside t n) (prefix-inside u (n - size t))
-  where
-    go : (b : Bool) → ltb n (size t) ≡ b → IsPrefix (choose b (term-at t n) (term-at u (n - size t)))
-        → (PrefixAt t n → n < size t) → (PrefixAt u (n - size t) → n - size t < size u) → suc n < suc (size t + size u)
-    go true e p left right = let h = left p in omega arith
-    go false e p left right = let h = right p in omega (arith, ltb-false n (size t) e)
 
 -- a term's own literal and a prefix's event stand at their paths
 pub own-found : (t : Term) (n : ℕ) → n < size t → literal-at t (path-in t n) ≡ some (own n)
@@ -167,7 +80,8 @@ Tells t w none = Unit {0}
 Tells t w (some (own n)) = (n < size t) × (w ≡ path-in t n)
 Tells t w (some (event n)) = PrefixAt t n × (w ≡ event-path (path-in t n))
 
-tells-inward : {T t : Term} {x k : ℕ} (w : List ℕ) (o : Option Literal) → Side T x k t → Tells t w o → Tells T (x ∷ w) (shifted k o)
+tells-inward : {T t : Term} {x k : ℕ} (w : List ℕ) (o : Option Literal) → Side T x k t
+    → Tells t w o → Tells T (x ∷ w) (shifted k o)
 unfolding shifted
 tells-inward w none s r = tt
 tells-inward {x} w (some (own n)) s r =
@@ -203,23 +117,33 @@ tells (binary o t u) (x ∷ w) =
     tells-if _ x w 1 _ _ (tells-inward w _ (first o t u) (tells t w))
     (tells-if _ x w 2 _ none (tells-inward w _ (second o t u) (tells u w)) tt)
 
--- and nowhere else
-pub own-only : (t : Term) (w : List ℕ) (n : ℕ) → literal-at t w ≡ some (own n) → (n < size t) × (w ≡ path-in t n)
+-- and nowhere else; no literal of a right-hand side stands at the left-hand side's path
+pub own-only : (t : Term) (w : List ℕ) (n : ℕ) → literal-at t w ≡ some (own n)
+    → (n < size t) × (w ≡ path-in t n)
 own-only t w n e = rw e at (tells t w)
 
-pub event-only : (t : Term) (w : List ℕ) (n : ℕ) → literal-at t w ≡ some (event n) → PrefixAt t n × (w ≡ event-path (path-in t n))
+pub event-only : (t : Term) (w : List ℕ) (n : ℕ) → literal-at t w ≡ some (event n)
+    → PrefixAt t n × (w ≡ event-path (path-in t n))
 event-only t w n e = rw e at (tells t w)
 
--- a literal has one path, and a path one literal
-pub one-path : (t : Term) (v w : List ℕ) (l : Literal) → literal-at t v ≡ some l → literal-at t w ≡ some l → v ≡ w
+pub left-apart : (t : Term) → literal-at t left-path ≡ none
+unfolding literal-at
+left-apart (leaf l) = refl
+left-apart (prefix e t) = refl
+left-apart (binary o t u) = refl
+
+-- literals are equal exactly where their paths are
+one-path : (t : Term) (v w : List ℕ) (l : Literal) → literal-at t v ≡ some l → literal-at t w ≡ some l → v ≡ w
 one-path t v w (own n) p q = own-only t v n p .1 ∙ sym (own-only t w n q .1)
 one-path t v w (event n) p q = event-only t v n p .1 ∙ sym (event-only t w n q .1)
 
-pub one-place : (t : Term) (v w : List ℕ) (l m : Literal) → literal-at t v ≡ some l → literal-at t w ≡ some m → (l ≡ m) ↔ (v ≡ w)
+pub one-place : (t : Term) (v w : List ℕ) (l m : Literal) → literal-at t v ≡ some l → literal-at t w ≡ some m
+    → (l ≡ m) ↔ (v ≡ w)
 one-place t v w l m p q = (λ e. one-path t v w m (p ∙ ap some e) q, λ e. cc (ap (literal-at t) e))
 
--- a subterm's path and what is left below it
-shallow-at : (t : Term) (n : ℕ) → n < size t → (d : ℕ) → Shallow d t → Shallow (d + length (path-in t n)) (term-at t n)
+-- what is left of the 64 digits at number n
+shallow-at : (t : Term) (n : ℕ) → n < size t
+    → (d : ℕ) → Shallow d t → Shallow (d + length (path-in t n)) (term-at t n)
 shallow-at =
     by-number (λ t n. (d : ℕ) → Shallow d t → Shallow (d + length (path-in t n)) (term-at t n))
     (λ t d h. rw (path-root t, term-root t, add-zero d) h)
@@ -245,3 +169,177 @@ pub event-short : (t : Term) (d n : ℕ) → Shallow d t → PrefixAt t n → d 
 event-short t d n s p =
     let r = event-room _ (term-at t n) p (shallow-at t n (prefix-inside t n p) d s) in
     omega (arith, length-append (path-in t n) (1 ∷ []))
+
+-- the subterms of each form's kind
+leaf-subterms : (l : Leaf) → subterms (leaf-kind l) ≡ 0
+unfolding subterms leaf-kind
+leaf-subterms (call d) = refl
+leaf-subterms SKIP = refl
+leaf-subterms STOP = refl
+
+operator-subterms : (o : Operator) → subterms (operator-kind o) ≡ 2
+unfolding subterms operator-kind
+operator-subterms internal = refl
+operator-subterms external = refl
+operator-subterms sequence = refl
+operator-subterms (parallel x) = refl
+
+prefix-subterms : subterms Kind.prefix ≡ 1
+unfolding subterms
+prefix-subterms = refl
+
+-- columns that hold a term
+module _ (ks ps xs : List ℕ) where
+  holds-after : (t : Term) (i : ℕ) → Holds ks ps xs i t → getD xs i 0 ≡ i + size t
+  unfolding size
+  holds-after (leaf l) i h = omega arith
+  holds-after (prefix e t) i h = omega (arith, holds-after t (suc i) (h .3))
+  holds-after (binary o t u) i h =
+      omega (arith, holds-after t (suc i) (h .3), holds-after u (getD xs (suc i) 0) (h .4))
+
+  side-held : {T t : Term} {x k : ℕ} (i : ℕ) → Side T x k t → Holds ks ps xs i T → Holds ks ps xs (i + k) t
+  side-held i (only e t) h = rw add-one (h .3)
+  side-held i (first o t u) h = rw add-one (h .3)
+  side-held i (second o t u) h =
+      let m : getD xs (suc i) 0 ≡ i + (1 + size t) = omega (arith, holds-after t (suc i) (h .3)) in
+      rw m at (h .4)
+
+  -- number n's part of them holds number n
+  holds-at : (t : Term) (n : ℕ) → n < size t
+      → (i : ℕ) → Holds ks ps xs i t → Holds ks ps xs (i + n) (term-at t n)
+  holds-at =
+      by-number (λ t n. (i : ℕ) → Holds ks ps xs i t → Holds ks ps xs (i + n) (term-at t n))
+      (λ t i h. rw (term-root t, add-zero i) h)
+      λ T t x k n s h further i r.
+      rw (side-at n s h .1, ← add-assoc i k n) (further (i + k) (side-held i s r))
+
+  -- the kind is a prefix's exactly where the term is one
+  kind-is : (t : Term) (i : ℕ) → Holds ks ps xs i t → (getD ks i 0 ≡ Kind.prefix) ↔ IsPrefix t
+  kind-is (leaf l) i h =
+      (λ e. omega (arith, leaf-subterms l, prefix-subterms, ap subterms (sym (h .0) ∙ e)), λ p. absurd p)
+  kind-is (prefix e t) i h = (λ q. tt, λ p. h .0)
+  kind-is (binary o t u) i h =
+      (λ e. omega (arith, operator-subterms o, prefix-subterms, ap subterms (sym (h .0) ∙ e)), λ p. absurd p)
+
+  pub kind-at : (i : ℕ) (t : Term) (n : ℕ) → Holds ks ps xs i t → n < size t
+      → (getD ks (i + n) 0 ≡ Kind.prefix) ↔ PrefixAt t n
+  kind-at i t n h b = kind-is (term-at t n) (i + n) (holds-at t n b i h)
+
+  -- the step from a term to the side that number n stands in
+  second-at : (i : ℕ) (t : Term) → Holds ks ps xs (suc i) t → i + 1 < 1024
+      → i + (1 + size t) ≡ look 1024 xs (i + 1)
+  second-at i t h b =
+      let m : i + (1 + size t) ≡ getD xs (suc i) 0 = omega (arith, holds-after t (suc i) h) in
+      m ∙ rw (← add-one i) (look-in 1024 xs (i + 1) b)
+
+  side-step : {T t : Term} {x k : ℕ} (i j n : ℕ) → Side T x k t → Holds ks ps xs i T → i + size T ≤ 1024
+      → n < size t → j ≡ i + (k + n) → (c : ℕ) → c ≡ subterms (getD ks i 0)
+      → (c ≡ 0 → ⊥) × ((i + k ≡ next c xs i j) × (x ≡ digit c xs i j))
+  unfolding size
+  side-step i j n (only e t) h b m q c z =
+      let one : c ≡ 1 = z ∙ ap subterms (h .0) ∙ prefix-subterms in
+      (λ o. omega arith, step-only c xs i j (λ o. omega arith))
+  side-step i j n (first o t u) h b m q c z =
+      let two : c ≡ 2 = z ∙ ap subterms (h .0) ∙ operator-subterms o in
+      (λ o. omega arith, step-first c xs i j two _ (second-at i t (h .3) (omega arith)) (omega arith))
+  side-step i j n (second o t u) h b m q c z =
+      let two : c ≡ 2 = z ∙ ap subterms (h .0) ∙ operator-subterms o in
+      (λ o. omega arith, step-second c xs i j two _ (second-at i t (h .3) (omega arith)) (omega arith))
+
+  -- following the columns gives number n's path
+  abbrev Leads : Term → ℕ → Type 0
+  Leads t n = (i f : ℕ) → Holds ks ps xs i t → i + size t ≤ 1024 → length (path-in t n) ≤ f
+      → descended f ks xs i (i + n) ≡ some (path-in t n)
+
+  leads-inward : (T t : Term) (x k n : ℕ) → Side T x k t → n < size t → Leads t n → Leads T (k + n)
+  unfolding below
+  leads-inward T t x k n s h further i zero r b l = absurd (omega (arith, ap length (side-at n s h .0)))
+  leads-inward T t x k n s h further i (suc f) r b l =
+      let at = side-at n s h .0 in
+      let j : i + (k + n) ≡ i + k + n = omega arith in
+      let m = side-inside s in
+      let z = side-first s in
+      let kind : getD ks i 0 ≡ look 1024 ks i = look-in 1024 ks i (omega arith) in
+      let step = side-step i (i + (k + n)) n s r b h refl _ (ap subterms (sym kind)) in
+      descended-step _ ks xs i _ (λ e. omega arith) f _ x (i + k) refl refl (step .0) (step .1 .1) (step .1 .0)
+      ∙ rw (at, j, further (i + k) f (side-held i s r) (omega arith) (omega (arith, ap length at)))
+
+  pub descended-path : (i : ℕ) (t : Term) (n f : ℕ) → Holds ks ps xs i t → i + size t ≤ 1024 → n < size t
+      → length (path-in t n) ≤ f → descended f ks xs i (i + n) ≡ some (path-in t n)
+  descended-path i t n f r b h l =
+      by-number Leads (λ t i f r b l. rw (path-root t) (descended-here f ks xs i (i + 0) (omega arith)))
+      leads-inward t n h i f r b l
+
+-- the number of a definition's root
+abbrev pub root : Columns → ℕ → ℕ
+root c k = look 64 (c .roots) k
+
+-- columns that hold definition k, a term: with some column of payloads they hold the term at its root
+pub record Defined (c : Columns) (k : ℕ) (t : Term) : Type 0 where
+  pub payloads : List ℕ
+  pub held : Holds (c .kinds) payloads (c .after) (root c k) t
+  pub fits : root c k + size t ≤ 1024
+  pub owned : (j : ℕ) → root c k ≤ j → j < root c k + size t → look 1024 (c .owners) j ≡ k
+  pub shallow : Shallow 0 t
+
+-- columns that hold a list of definitions
+abbrev pub Roots : Columns → List Term → Type 0
+Roots c ts = (k : ℕ) (t : Term) → getElem? ts k ≡ some t → Defined c k t
+
+-- a literal's answer is definition k and its path w
+abbrev pub Answers : Columns → Asked → ℕ → List ℕ → Type 0
+Answers c l k w = (answer c l ≡ At k (length w)) × (literal-path c l ≡ some w)
+
+answered : (c : Columns) (l : Asked) (k : ℕ) (w : List ℕ) → literal-definition c l ≡ k
+    → literal-path c l ≡ some w → Answers c l k w
+unfolding answer told
+answered c l k w d e = (rw (d, e), e)
+
+pub left-answered : (c : Columns) (k : ℕ) → Answers c (Left k) k left-path
+unfolding literal-definition literal-path
+left-answered c k = answered c (Left k) k left-path refl refl
+
+-- what the columns of a table answer for number n of definition k
+module _ (c : Columns) (ts : List Term) (all : Roots c ts) (k : ℕ) (t : Term) (is : getElem? ts k ≡ some t)
+    (n : ℕ) where
+  there : Defined c k t
+  there = all k t is
+
+  owner-is : n < size t → look 1024 (c .owners) (root c k + n) ≡ k
+  owner-is h = there .owned (root c k + n) (omega arith) (omega arith)
+
+  path-is : (most : ℕ) → n < size t → length (path-in t n) ≤ most
+      → path-of most c (root c k + n) ≡ some (path-in t n)
+  unfolding path-of
+  path-is most h l =
+      rw (owner-is h) (descended-path _ (there .payloads) _ _ t n most (there .held) (there .fits) h l)
+
+  prefix-there : n < size t → (look 1024 (c .kinds) (root c k + n) ≡ Kind.prefix) ↔ PrefixAt t n
+  prefix-there h =
+      let fits = there .fits in
+      rw (← look-in 1024 (c .kinds) (root c k + n) (omega arith))
+      (kind-at _ (there .payloads) _ (root c k) t n (there .held) h)
+
+  pub own-answered : n < size t → Answers c (Own (root c k + n)) k (path-in t n)
+  unfolding literal-definition literal-path
+  own-answered h =
+      let short = path-short t 0 n (there .shallow) h in
+      answered c (Own (root c k + n)) k _ (owner-is h) (path-is 64 h (omega arith))
+
+  pub event-answered : PrefixAt t n → Answers c (Event (root c k + n)) k (event-path (path-in t n))
+  unfolding literal-definition literal-path event-of with-event
+  event-answered p =
+      let h = prefix-inside t n p in
+      let short = event-short t 0 n (there .shallow) p in
+      let path = path-is 63 h (omega (arith, length-append (path-in t n) (1 ∷ []))) in
+      answered c (Event (root c k + n)) k _ (owner-is h)
+      (simp (eq-eqb _ Kind.prefix (prefix-there h .1 p), path))
+
+  pub event-nowhere : n < size t → (PrefixAt t n → ⊥) → answer c (Event (root c k + n)) ≡ Nowhere
+  unfolding answer told literal-path event-of
+  event-nowhere h none-there = simp (ne-eqb _ Kind.prefix (λ e. none-there (prefix-there h .0 e)))
+
+-- two outcomes that the promise of `place` allows, of one literal, columns and array, are equal
+pub place-settled : (c : Columns) (l : Asked) (p : List ℕ) (x₁ x₂ : Placed) (p₁ p₂ : List ℕ)
+    → Places c l p x₁ p₁ → Places c l p x₂ p₂ → (x₁ ≡ x₂) × (p₁ ≡ p₂)
+place-settled c l p x₁ x₂ p₁ p₂ f g = (f .0 ∙ sym (g .0), f .1 ∙ sym (g .1))

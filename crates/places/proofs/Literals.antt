@@ -98,7 +98,7 @@ told-is d none r e = rw e
 told-is d (some w) r e = rw (e, zero-add (length w))
 
 -- what the door leaves
-abbrev Places : Columns → Literal → List ℕ → Placed → List ℕ → Type 0
+abbrev pub Places : Columns → Literal → List ℕ → Placed → List ℕ → Type 0
 Places c l p x q = (x ≡ answer c l) × (q ≡ sets p 0 (digits (literal-path c l)))
 
 module _ (c : Columns) (l : Literal) (p : List ℕ) where
