@@ -2,10 +2,8 @@
 -- right-hand side's root has the empty path. Subterms of a term at w are at w.1 and w.2; a prefix's event is at w.1, its arrow at
 -- w, its continuation at w.2.
 use Prim.Native.Nat.{ℕ, zero, suc, _+_, _-_}
-use mathlib.Core.Bool.{Bool, true, false}
 use mathlib.Core.List.{List, [], _∷_, _++_}
 use mathlib.Core.Option.{Option, none, some}
-use lib.ListN.{getD}
 use lib.Dec.{ltb, eqb}
 use Rattle.lines.specs.Line.{choose}
 use Rattle.tables.specs.Term.{Term, leaf, prefix, binary, size}
