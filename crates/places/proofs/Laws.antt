@@ -14,15 +14,17 @@ use lib.ListN.{length, getD, getElem?, length-append}
 use lib.Dec.{eqb}
 use borrow.Author.Tests.{eqb-true, eq-eqb, ne-eqb}
 use Rattle.lines.specs.Line.{choose}
-use Rattle.tables.specs.Kind as Kind
-use Rattle.tables.specs.Kind.{subterms}
-use Rattle.tables.specs.Term.{Term, leaf, prefix, binary, size, Shallow, Holds}
-use Rattle.tables.specs.Term.{Leaf, call, SKIP, STOP, leaf-kind}
-use Rattle.tables.specs.Term.{Operator, internal, external, sequence, parallel, operator-kind}
+use Rattle.frames.specs.Kind as Kind
+use Rattle.frames.specs.Kind.{subterms}
+use Rattle.tables.specs.Table.{Sofar, judged, accepted}
+use Rattle.tables.specs.Columns.{kinds, payloads, owners, afters, roots}
+use Rattle.terms.specs.Term.{Term, leaf, prefix, binary, size, Shallow, Holds, definitions-of}
+use Rattle.terms.proofs.Trees.{leaf-subterms, operator-subterms, each-at, checked-trees}
+use Rattle.terms.proofs.Held.{holds-behind, checked-holds}
 use Rattle.places.specs.Place.{path-in, term-at, IsPrefix, PrefixAt, event-path, left-path}
 use Rattle.places.specs.Place.{Literal, own, event, shifted, event-end, literal-at}
 use Rattle.places.specs.Code.{Columns, look, next, digit, below, descended, path-of, with-event, event-of}
-use Rattle.places.specs.Code.{literal-path, literal-definition, told, answer}
+use Rattle.places.specs.Code.{literal-path, literal-definition, told, answer, columns}
 use Rattle.places.specs.declared.Literal.{Literal as Asked}
 use Rattle.places.specs.declared.Literal.the-variants.{Left, Own, Event}
 use Rattle.places.specs.declared.Placed.{Placed}
@@ -170,38 +172,17 @@ event-short t d n s p =
     let r = event-room _ (term-at t n) p (shallow-at t n (prefix-inside t n p) d s) in
     omega (arith, length-append (path-in t n) (1 ∷ []))
 
--- the subterms of each form's kind
-leaf-subterms : (l : Leaf) → subterms (leaf-kind l) ≡ 0
-unfolding subterms leaf-kind
-leaf-subterms (call d) = refl
-leaf-subterms SKIP = refl
-leaf-subterms STOP = refl
-
-operator-subterms : (o : Operator) → subterms (operator-kind o) ≡ 2
-unfolding subterms operator-kind
-operator-subterms internal = refl
-operator-subterms external = refl
-operator-subterms sequence = refl
-operator-subterms (parallel x) = refl
-
 prefix-subterms : subterms Kind.prefix ≡ 1
 unfolding subterms
 prefix-subterms = refl
 
 -- columns that hold a term
 module _ (ks ps xs : List ℕ) where
-  holds-after : (t : Term) (i : ℕ) → Holds ks ps xs i t → getD xs i 0 ≡ i + size t
-  unfolding size
-  holds-after (leaf l) i h = omega arith
-  holds-after (prefix e t) i h = omega (arith, holds-after t (suc i) (h .3))
-  holds-after (binary o t u) i h =
-      omega (arith, holds-after t (suc i) (h .3), holds-after u (getD xs (suc i) 0) (h .4))
-
   side-held : {T t : Term} {x k : ℕ} (i : ℕ) → Side T x k t → Holds ks ps xs i T → Holds ks ps xs (i + k) t
   side-held i (only e t) h = rw add-one (h .3)
   side-held i (first o t u) h = rw add-one (h .3)
   side-held i (second o t u) h =
-      let m : getD xs (suc i) 0 ≡ i + (1 + size t) = omega (arith, holds-after t (suc i) (h .3)) in
+      let m : getD xs (suc i) 0 ≡ i + (1 + size t) = omega (arith, holds-behind ks ps xs (suc i) t (h .3)) in
       rw m at (h .4)
 
   -- number n's part of them holds number n
@@ -229,7 +210,7 @@ module _ (ks ps xs : List ℕ) where
   second-at : (i : ℕ) (t : Term) → Holds ks ps xs (suc i) t → i + 1 < 1024
       → i + (1 + size t) ≡ look 1024 xs (i + 1)
   second-at i t h b =
-      let m : i + (1 + size t) ≡ getD xs (suc i) 0 = omega (arith, holds-after t (suc i) h) in
+      let m : i + (1 + size t) ≡ getD xs (suc i) 0 = omega (arith, holds-behind ks ps xs (suc i) t h) in
       m ∙ rw (← add-one i) (look-in 1024 xs (i + 1) b)
 
   side-step : {T t : Term} {x k : ℕ} (i j n : ℕ) → Side T x k t → Holds ks ps xs i T → i + size T ≤ 1024
@@ -285,6 +266,28 @@ pub record Defined (c : Columns) (k : ℕ) (t : Term) : Type 0 where
 -- columns that hold a list of definitions
 abbrev pub Roots : Columns → List Term → Type 0
 Roots c ts = (k : ℕ) (t : Term) → getElem? ts k ≡ some t → Defined c k t
+
+listed : (ts : List Term) (k : ℕ) (t : Term) → getElem? ts k ≡ some t → k < length ts
+listed [] k t e = let z : _≡_ {A = ℕ} 0 1 = cc in absurd (omega arith)
+listed (u ∷ ts) zero t e = omega arith
+listed (u ∷ ts) (suc k) t e = omega (arith, listed ts k t e)
+
+-- those of a checked table do
+pub checked-roots : (text : List ℕ) (s : Sofar) → judged text ≡ accepted s
+    → Roots (columns (kinds s) (owners s) (afters s) (roots s)) (definitions-of s)
+checked-roots text s q k t e =
+    let table = checked-trees text s q in
+    let stands = checked-holds text s q k t e in
+    let few : k < 64 = omega (arith, listed (definitions-of s) k t e) in
+    let r : getD (roots s) k 0 ≡ look 64 (roots s) k = look-in 64 (roots s) k few in
+    let fits : look 64 (roots s) k + size t ≤ 1024 = omega arith in
+    record {
+      payloads = payloads s;
+      held = rw r at (stands .holds);
+      fits = fits;
+      owned = λ j from to. sym (look-in 1024 (owners s) j (omega arith)) ∙ stands .owned j (omega arith) (omega arith);
+      shallow = each-at (s .definitions) (s .events) (definitions-of s) (table .each) k t e .0;
+    }
 
 -- a literal's answer is definition k and its path w
 abbrev pub Answers : Columns → Asked → ℕ → List ℕ → Type 0

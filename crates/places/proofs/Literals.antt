@@ -11,7 +11,7 @@ use lib.Seq.{sets}
 use lib.Dec.{eqb}
 use borrow.Author.Tests.{eq-eqb, ne-eqb}
 use Rattle.lines.specs.Line.{choose}
-use Rattle.tables.specs.Kind.{subterms, prefix}
+use Rattle.frames.specs.Kind.{subterms, prefix}
 use Rattle.tables.proofs.Kept.{sets-snoc}
 use Rattle.places.specs.Code.{Columns, look, next, digit, below, descended, reached, digits, path-of, with-event}
 use Rattle.places.specs.Code.{event-of, literal-path, literal-definition, told, placed, answer}

@@ -9,7 +9,7 @@ use native.Mathlib.Omega.{arith}
 use lib.Dec.{ltb}
 use borrow.Author.Tests.{ltb-true, ltb-false, lt-ltb, le-ltb}
 use Rattle.lines.specs.Line.{choose}
-use Rattle.tables.specs.Term.{Operator, Term, leaf, prefix, binary, size, Shallow}
+use Rattle.terms.specs.Term.{Operator, Term, leaf, prefix, binary, size, Shallow}
 use Rattle.places.specs.Place.{path-in, term-at, IsPrefix, PrefixAt, own, shifted, literal-at}
 
 -- a side of a term: its digit, and the number that its own number 0 has in the term

@@ -12,7 +12,7 @@ use lib.ListN.{length, getD, set}
 use lib.Seq.{sets, set-comm}
 use lib.Dec.{ltb}
 use borrow.Author.Tests.{ltb-true, lt-ltb, le-ltb, le-leb, lt-leb, eq-eqb, ne-eqb}
-use Rattle.tables.specs.Kind.{subterms}
+use Rattle.frames.specs.Kind.{subterms}
 use Rattle.places.specs.Code.{look, next, digit, below, descended, reached, digits}
 use Rattle.places.specs.declared.Reached.{Reached}
 use Rattle.places.specs.declared.Reached.the-variants.{Ends, Astray}

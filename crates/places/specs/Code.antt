@@ -7,7 +7,7 @@ use mathlib.Core.Option.{Option, none, some}
 use lib.ListN.{length, getD}
 use lib.Dec.{ltb, leb, eqb}
 use Rattle.lines.specs.Line.{choose}
-use Rattle.tables.specs.Kind.{subterms, prefix}
+use Rattle.frames.specs.Kind.{subterms, prefix}
 use Rattle.places.specs.Place.{left-path, event-path}
 use Rattle.places.specs.declared.Literal.{Literal}
 use Rattle.places.specs.declared.Literal.the-variants.{Left, Own, Event}

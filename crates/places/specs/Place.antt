@@ -6,7 +6,7 @@ use mathlib.Core.List.{List, [], _∷_, _++_}
 use mathlib.Core.Option.{Option, none, some}
 use lib.Dec.{ltb, eqb}
 use Rattle.lines.specs.Line.{choose}
-use Rattle.tables.specs.Term.{Term, leaf, prefix, binary, size}
+use Rattle.terms.specs.Term.{Term, leaf, prefix, binary, size}
 
 pub record Place : Type 0 where
   pub definition : ℕ

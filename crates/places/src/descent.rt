@@ -1,7 +1,7 @@
 // Following terms downward: from a term to one of its subterms, a digit a step.
 use crate::Reached;
 use crate::Step;
-use tables::subterms;
+use frames::subterms;
 ghost use mathlib.Core.Path.{_≡_};
 ghost use Prim.Native.Nat.{_-_, _+_, _≤_, _<_};
 ghost use lib.Seq.{sets};

@@ -12,13 +12,14 @@ use Rattle.lines.specs.Line.{choose, Raw, frame, lines, characters}
 use Rattle.lines.specs.Line as Line
 use Rattle.lines.specs.declared.Line.the-variants.{Found, NoLine, End}
 use Rattle.lines.proofs.Laws.{IsLine, is-line}
-use Rattle.tables.specs.Table.{Sofar, seen, frame-of, refusal, first-refusal, taken, unopened, closes, held, verdict, Judged, accepted, refused, behind, rest, from-first}
-use Rattle.tables.specs.Code.{heard, said, stop, opens, opened-by, opened}
-use Rattle.tables.specs.declared.Frame.{Frame}
-use Rattle.tables.specs.declared.Frame.the-variants.{Opening, Definition, Term, Closing, Wrong}
-use Rattle.tables.specs.declared.Said.{Said}
-use Rattle.tables.specs.declared.Said.the-variants.{Goes, Stops}
-use Rattle.tables.specs.declared.Opened.the-variants.{Table, Fails}
+use Rattle.frames.specs.TableFrame.{frame-of, refusal, first-refusal, closes}
+use Rattle.tables.specs.Table.{Sofar, seen, taken, unopened, held, verdict, Judged, accepted, refused, behind, rest, from-first}
+use Rattle.frames.specs.Code.{heard, said, stop, opens, opened-by, opened}
+use Rattle.frames.specs.declared.Frame.{Frame}
+use Rattle.frames.specs.declared.Frame.the-variants.{Opening, Definition, Term, Closing, Wrong}
+use Rattle.frames.specs.declared.Said.{Said}
+use Rattle.frames.specs.declared.Said.the-variants.{Goes, Stops}
+use Rattle.frames.specs.declared.Opened.the-variants.{Table, Fails}
 
 -- a line that is one: where the next begins, and the lines from there on
 pub record Onward (t : List ℕ) (at next : ℕ) (ls : List Raw) : Type 0 where

@@ -11,14 +11,15 @@ use lib.Seq.{sets, getD-set-same, getD-set-other}
 use lib.Dec.{eqb}
 use borrow.Author.Tests.{eq-eqb, ne-eqb}
 use Rattle.lines.specs.Line.{choose}
-use Rattle.tables.specs.Kind.{subterms}
-use Rattle.tables.specs.Table.{Item, Sofar, next-due, seen, refusal, taken, closes, term-room}
+use Rattle.frames.specs.Kind.{subterms}
+use Rattle.frames.specs.TableFrame.{refusal, closes, term-room}
+use Rattle.tables.specs.Table.{Item, Sofar, next-due, seen, taken}
 use Rattle.tables.specs.Code.{Ready, topmost, moved, owed, pushed, started, seen-then, waiting-then, roots-then, column-then}
-use Rattle.tables.specs.declared.Frame.{Frame}
-use Rattle.tables.specs.declared.Frame.the-variants.{Opening, Definition, Term, Closing, Wrong}
-use Rattle.tables.specs.declared.Seen.{Seen}
-use Rattle.tables.proofs.KindLaws.{subterms-most}
-use Rattle.tables.proofs.Fine.{FineTerm, fine-term, depth-fits, fine-definition}
+use Rattle.frames.specs.declared.Frame.{Frame}
+use Rattle.frames.specs.declared.Frame.the-variants.{Opening, Definition, Term, Closing, Wrong}
+use Rattle.frames.specs.declared.Seen.{Seen}
+use Rattle.frames.proofs.KindLaws.{subterms-most}
+use Rattle.frames.proofs.Fine.{FineTerm, fine-term, depth-fits, fine-definition}
 
 -- one number more at the end of a run of stores
 pub sets-snoc : (l : List ℕ) (i : ℕ) (vs : List ℕ) (v n : ℕ) → n ≡ i + length vs → set (sets l i vs) n v ≡ sets l i (vs ++ (v ∷ []))

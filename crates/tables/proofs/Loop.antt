@@ -11,12 +11,14 @@ use Rattle.lines.specs.Line.{choose, Raw, frame, lines}
 use Rattle.lines.specs.Line as Line
 use Rattle.lines.specs.declared.Line.the-variants.{Found, NoLine, End}
 use Rattle.lines.proofs.Laws.{IsLine, is-line, NotALine, not-a-line, none-left}
-use Rattle.tables.specs.Table.{Sofar, next-due, seen, refusal, taken, closes, verdict, Judged, accepted, refused, behind, rest}
+use Rattle.frames.specs.TableFrame.{refusal, closes}
+use Rattle.tables.specs.Table.{Sofar, next-due, seen, taken, verdict, Judged, accepted, refused, behind, rest}
 use Rattle.tables.specs.Columns.{answer}
-use Rattle.tables.specs.Code.{Ready, said, begins, Filled, seen-then, waiting-then, roots-then, column-then}
-use Rattle.tables.specs.declared.Frame.{Frame}
-use Rattle.tables.specs.declared.Seen.{Seen}
-use Rattle.tables.specs.declared.Said.the-variants.{Goes, Stops}
+use Rattle.frames.specs.Code.{said}
+use Rattle.tables.specs.Code.{Ready, begins, Filled, seen-then, waiting-then, roots-then, column-then}
+use Rattle.frames.specs.declared.Frame.{Frame}
+use Rattle.frames.specs.declared.Seen.{Seen}
+use Rattle.frames.specs.declared.Said.the-variants.{Goes, Stops}
 use Rattle.tables.specs.declared.Counts.{Counts}
 use Rattle.tables.specs.declared.Checked.{Checked}
 use Rattle.tables.specs.declared.Checked.the-variants.{Accepted, Refused}
@@ -83,7 +85,7 @@ module _ (text : List ℕ) (from d ev : ℕ) (k₀ p₀ o₀ r₀ : List ℕ) wh
   }
 
   module _ (k p o r w : List ℕ) (s : Seen) (at line : ℕ) (g : Going k p o r w s at line) where
-    by-sofar : (x : Rattle.tables.specs.declared.Said.Said) → x ≡ said (λ (f : Frame). refusal f s) at (lines (drop at text))
+    by-sofar : (x : Rattle.frames.specs.declared.Said.Said) → x ≡ said (λ (f : Frame). refusal f s) at (lines (drop at text))
         → said (λ (f : Frame). refusal f (seen (g .sofar))) at (lines (drop at text)) ≡ x
     by-sofar x e = sym (rw (g .keeps .sees) at e)
 

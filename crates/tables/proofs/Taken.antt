@@ -8,9 +8,9 @@ use lib.ListN.{length, getD, set}
 use lib.Dec.{eqb}
 use borrow.Author.Tests.{eq-eqb, ne-eqb}
 use Rattle.lines.specs.Line.{choose}
-use Rattle.tables.specs.Kind.{subterms}
+use Rattle.frames.specs.Kind.{subterms}
 use Rattle.tables.specs.Code.{topmost, moved, owed, pushed}
-use Rattle.tables.specs.declared.Seen.{Seen}
+use Rattle.frames.specs.declared.Seen.{Seen}
 
 -- no others wait, or the last of them is next
 pub topmost-none : (n : ℕ) (w : List ℕ) → n ≡ 0 → 0 ≡ topmost n w

@@ -4,7 +4,7 @@ use mathlib.Core.Path.{_≡_, refl, sym, ap, _∙_}
 use mathlib.Core.List.{List}
 use native.Mathlib.Omega.{arith}
 use lib.ListN.{getD, set}
-use Rattle.tables.specs.Kind.{subterms}
+use Rattle.frames.specs.Kind.{subterms}
 use Rattle.tables.specs.Columns.{past, walked}
 
 -- behind no term, one, or two

@@ -11,13 +11,15 @@ use lib.Seq.{sets, sets-eq}
 use lib.Dec.{leb, eqb}
 use borrow.Author.Tests.{le-leb, lt-leb, leb-true, eqb-true}
 use Rattle.lines.specs.Line.{choose, Raw, frame, lines, characters}
-use Rattle.tables.specs.Table.{Item, Sofar, frame-of, first-refusal, taken, unopened, held, verdict, Judged, accepted, refused, rest, from-first, judged, text-room}
+use Rattle.frames.specs.TableFrame.{frame-of, first-refusal}
+use Rattle.tables.specs.Table.{Item, Sofar, taken, unopened, held, verdict, Judged, accepted, refused, rest, from-first, judged, text-room}
 use Rattle.tables.specs.Columns.{column, kinds, payloads, owners, roots, afters, walked, left, answer}
-use Rattle.tables.specs.Code.{opens, opened-by, opened, failure, begins, Filled}
-use Rattle.tables.specs.declared.Frame.{Frame}
-use Rattle.tables.specs.declared.Frame.the-variants.{Opening, Definition, Term, Closing, Wrong}
-use Rattle.tables.specs.declared.Opened.{Opened}
-use Rattle.tables.specs.declared.Opened.the-variants.{Table, Fails}
+use Rattle.frames.specs.Code.{opens, opened-by, opened, failure}
+use Rattle.tables.specs.Code.{begins, Filled}
+use Rattle.frames.specs.declared.Frame.{Frame}
+use Rattle.frames.specs.declared.Frame.the-variants.{Opening, Definition, Term, Closing, Wrong}
+use Rattle.frames.specs.declared.Opened.{Opened}
+use Rattle.frames.specs.declared.Opened.the-variants.{Table, Fails}
 use Rattle.tables.specs.declared.Counts.{Counts}
 use Rattle.tables.specs.declared.Checked.{Checked}
 use Rattle.tables.specs.declared.Checked.the-variants.{Accepted, Refused}

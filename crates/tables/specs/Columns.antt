@@ -3,8 +3,9 @@
 use Prim.Native.Nat.{ℕ, zero, suc, _-_}
 use mathlib.Core.List.{List, [], _∷_, _++_, map}
 use lib.ListN.{length, getD, set, replicate}
-use Rattle.tables.specs.Kind.{subterms}
-use Rattle.tables.specs.Table.{Item, Sofar, Judged, accepted, refused, term-room}
+use Rattle.frames.specs.Kind.{subterms}
+use Rattle.frames.specs.TableFrame.{term-room}
+use Rattle.tables.specs.Table.{Item, Sofar, Judged, accepted, refused}
 use Rattle.tables.specs.declared.Counts.{Counts}
 use Rattle.tables.specs.declared.Checked.{Checked}
 use Rattle.tables.specs.declared.Checked.the-variants.{Accepted, Refused}

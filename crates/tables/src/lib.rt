@@ -1,16 +1,18 @@
 // Tables of terms: a table's text is judged, and a good one becomes columns: for each term its kind, its payload, the
 // definition that it stands in and the term behind it, and for each definition its root.
 // It relies on the line finder for where a line ends and what its bytes are.
-mod judging;
-mod kinds;
-mod reading;
 mod taking;
 mod walking;
 
-use judging::first_line;
-use judging::table_line;
-pub use kinds::payload_bytes;
-pub use kinds::subterms;
+use frames::Frame;
+use frames::Opened;
+use frames::Said;
+use frames::Seen;
+use frames::closes;
+use frames::failure_of;
+use frames::first_line;
+use frames::stop_of;
+use frames::table_line;
 use lines::Line;
 use lines::next_line;
 use taking::take;
@@ -23,52 +25,9 @@ ghost use Rattle.tables.specs.Table as table;
 ghost use Rattle.tables.specs.Table.{Sofar, accepted, judged, seen};
 ghost use Rattle.tables.specs.Columns as columns;
 ghost use Rattle.tables.specs.Columns.{answer, left};
-ghost use Rattle.tables.specs.Code.{stop, failure, begins, Filled};
+ghost use Rattle.tables.specs.Code.{begins, Filled};
 
 const TEXT_ROOM: usize = 32768;
-
-// A table's frame; `Wrong` stands for any bytes that are none.
-pub enum Frame {
-    Opening {
-        edition: u8,
-        definitions: u8,
-        events: u8,
-    },
-    Definition(u8),
-    Term {
-        kind: u8,
-        payload: u64,
-    },
-    Closing(u64),
-    Wrong,
-}
-
-// What a line is judged by: line 1's two numbers, the definitions begun, the terms so far, how many terms the definition
-// begun still lacks, and the path length of the next of them.
-pub struct Seen {
-    pub definitions: usize,
-    pub events: usize,
-    pub begun: usize,
-    pub terms: usize,
-    pub due: usize,
-    pub depth: usize,
-}
-
-// What line 1 opens: a table of so many definitions and events, with the next line from `next` on, or the number of its refusal.
-pub enum Opened {
-    Table {
-        definitions: usize,
-        events: usize,
-        next: usize,
-    },
-    Fails(u8),
-}
-
-// What a line says: its frame, with the next line from `next` on, or the number of its refusal.
-pub enum Said {
-    Goes { frame: Frame, next: usize },
-    Stops(u8),
-}
 
 // How much a table holds.
 pub struct Counts {
@@ -201,37 +160,5 @@ fn closed(text: &[u8], at: usize, s: Seen, line: usize) -> Checked
         }),
         Line::NoLine => Checked::Refused { number: 1, line },
         Line::Found { end: _, next: _ } => Checked::Refused { number: 2, line },
-    }
-}
-
-fn closes(frame: Frame) -> bool
-    ensures { λ r. ⌜ r ≡ table.closes frame ⌝ }
-{
-    if let Frame::Closing(_) = frame {
-        true
-    } else {
-        false
-    }
-}
-
-fn stop_of(said: Said) -> u8
-    ensures { λ r. ⌜ r ≡ stop said ⌝ }
-{
-    match said {
-        Said::Goes { frame: _, next: _ } => 0,
-        Said::Stops(number) => number,
-    }
-}
-
-fn failure_of(first: Opened) -> u8
-    ensures { λ r. ⌜ r ≡ failure first ⌝ }
-{
-    match first {
-        Opened::Table {
-            definitions: _,
-            events: _,
-            next: _,
-        } => 0,
-        Opened::Fails(number) => number,
     }
 }

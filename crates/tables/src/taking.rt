@@ -1,7 +1,7 @@
 // A frame taken in: what the loop keeps after it, and what goes into the columns.
-use crate::Frame;
-use crate::Seen;
-use crate::kinds::subterms;
+use frames::Frame;
+use frames::Seen;
+use frames::subterms;
 ghost use mathlib.Core.Path.{_≡_};
 ghost use Prim.Native.Nat.{_+_, _-_, _<_, _≤_};
 ghost use lib.ListN.{set};

@@ -1,5 +1,5 @@
-use mathlib.Core.Path.{_≡_, _∙_, sym, ap, refl}
-use Prim.Native.Nat.{ℕ, _-_}
+use mathlib.Core.Path.{_∙_, sym}
+use Prim.Native.Nat.{_-_}
 use borrow.Author.Needs.{needs}
 use native.Mathlib.Omega.{arith}
 use lib.ListN.{length}
@@ -7,13 +7,6 @@ use Rattle.tables.proofs.Judged.{stops-is}
 use Rattle.tables.proofs.Loop.{Going, going-starts, going-stops, going-on, going-ready, going-closes, going-turn}
 use Rattle.tables.proofs.body.Statement.{statement}
 use Rattle.tables.proofs.body.Tie as tie
-use Rattle.tables.proofs.body.Reads as reads
-use Rattle.tables.proofs.body.Lts as lts
-use Rattle.tables.proofs.closed.Reads as closed-reads
-use Rattle.tables.proofs.closes.Reads as closes-reads
-use Rattle.tables.proofs.judging.table_line.Reads as table-line-reads
-use Rattle.tables.proofs.stop_of.Reads as stop-of-reads
-use Rattle.tables.proofs.taking.take.Reads as take-reads
 
 abbrev Inv-loop : tie.InvT-loop
 Inv-loop text from definitions events kinds₀ payloads₀ owners₀ roots₀ waiting₀ s₀ at₀ line₀ kinds payloads owners roots waiting s at line =
@@ -23,59 +16,45 @@ abbrev μ-loop : tie.MeasureT-loop
 μ-loop text from definitions events kinds₀ payloads₀ owners₀ roots₀ waiting₀ s₀ at₀ line₀ kinds payloads owners roots waiting s at line =
     length text - at
 
--- src/lib.rt:174:5
 loop-holds : tie.Need-loop-holds Inv-loop μ-loop
 loop-holds c = going-starts _ _ _ _ _ _ _ _ (c .before .pre)
 
--- src/lib.rt:175:13
 table-line-requires : tie.Need-table-line-requires Inv-loop μ-loop
 table-line-requires c κs = search needs
 
--- src/lib.rt:176:26
 enum-known-said : tie.Need-enum-known-said Inv-loop μ-loop
 enum-known-said c = c .match .keys1
 
--- src/lib.rt:178:25
 enum-told : tie.Need-enum-told Inv-loop μ-loop
 enum-told c = search needs
 
--- src/lib.rt:178:25
 stop-of-requires : tie.Need-stop-of-requires Inv-loop μ-loop
 stop-of-requires c κs = search needs
 
--- src/lib.rt:177:13
 returns : tie.Need-returns Inv-loop μ-loop
 returns c = going-stops _ _ _ _ _ _ _ _ _ _ _ _ _ _ _ _ (c .before .before .before .before .loop .inv) _ (stops-is _ _ _ (c .before .enum-told .given .1) (c .stop-of .ensures) ∙ c .before .before .before .table-line .ensures)
 
--- src/lib.rt:182:12
 closes-requires : tie.Need-closes-requires Inv-loop μ-loop
 closes-requires c κs = search needs
 
--- src/lib.rt:183:42
 add-closed : tie.Need-add-closed Inv-loop μ-loop
 add-closed c = omega (arith, c .before .before .before .before .before .before .loop .inv .counted, c .before .before .before .before .before .before .before .before .good .0, going-on _ _ _ _ _ _ _ _ _ _ _ _ _ _ _ _ (c .before .before .before .before .before .before .loop .inv) _ _ (sym (c .before .before .before .said .given .1) ∙ c .before .before .before .before .before .table-line .ensures))
 
--- src/lib.rt:183:13
 closed-requires : tie.Need-closed-requires Inv-loop μ-loop
 closed-requires c κs = search needs
 
--- src/lib.rt:183:13
 returns-2 : tie.Need-returns-2 Inv-loop μ-loop
 returns-2 c = going-closes _ _ _ _ _ _ _ _ _ _ _ _ _ _ _ _ (c .before .before .before .before .before .before .before .loop .inv) _ _ (sym (c .before .before .before .before .said .given .1) ∙ c .before .before .before .before .before .before .table-line .ensures) (sym (c .before .before .closes .ensures) ∙ c .before .if1 .taken) _ (c .closed .ensures)
 
--- src/lib.rt:185:9
 take-requires : tie.Need-take-requires Inv-loop μ-loop
 take-requires c κs = going-ready _ _ _ _ _ _ _ _ _ _ _ _ _ _ _ _ (c .before .before .before .before .before .before .before .before .before .before .before .loop .inv) _ _ (sym (c .before .before .before .before .before .before .before .before .said .given .1) ∙ c .before .before .before .before .before .before .before .before .before .before .table-line .ensures)
 
--- src/lib.rt:187:9
 add-line : tie.Need-add-line Inv-loop μ-loop
 add-line c = omega (arith, c .before .before .before .before .before .before .before .before .before .before .before .before .loop .inv .counted, c .before .before .before .before .before .before .before .before .before .before .before .before .before .before .good .0, going-on _ _ _ _ _ _ _ _ _ _ _ _ _ _ _ _ (c .before .before .before .before .before .before .before .before .before .before .before .before .loop .inv) _ _ (sym (c .before .before .before .before .before .before .before .before .before .said .given .1) ∙ c .before .before .before .before .before .before .before .before .before .before .before .table-line .ensures))
 
--- src/lib.rt:174:5
 loop-less : tie.Need-loop-less Inv-loop μ-loop
 loop-less c = omega (arith, going-on _ _ _ _ _ _ _ _ _ _ _ _ _ _ _ _ (c .before .before .before .before .before .before .before .before .before .before .before .before .loop .inv) _ _ (sym (c .before .before .before .before .before .before .before .before .before .said .given .1) ∙ c .before .before .before .before .before .before .before .before .before .before .before .table-line .ensures))
 
--- src/lib.rt:174:5
 loop-again : tie.Need-loop-again Inv-loop μ-loop
 loop-again c = let t = c .take .ensures in going-turn _ _ _ _ _ _ _ _ _ _ _ _ _ _ _ _ (c .before .before .before .before .before .before .before .before .before .before .before .before .loop .inv) _ _ (sym (c .before .before .before .before .before .before .before .before .before .said .given .1) ∙ c .before .before .before .before .before .before .before .before .before .before .before .table-line .ensures) (sym (c .before .before .before .before .before .before .before .closes .ensures) ∙ c .before .before .before .before .before .before .if1 .left) _ _ _ _ _ _ (t .0) (t .1 .0) (t .1 .1 .0) (t .1 .1 .1 .0) (t .1 .1 .1 .1 .0) (t .1 .1 .1 .1 .1)
 

@@ -1,64 +1,43 @@
-use mathlib.Core.Path.{_≡_, _∙_, sym, ap, refl}
-use Prim.Native.Nat.{ℕ}
-use native.Mathlib.Omega.{arith}
-use lib.ListN.{length, length-replicate}
+use mathlib.Core.Path.{_∙_, sym, ap, refl}
 use Rattle.tables.specs.Columns.{answer}
 use Rattle.tables.proofs.Whole.{table-opens, table-fails, judged-within, judged-over, answer-refuses, answer-accepts, refuses, accepts, failure-is}
 use borrow.Author.Needs.{needs}
 use Rattle.tables.proofs.check.Statement.{statement}
 use Rattle.tables.proofs.check.Tie as tie
-use Rattle.tables.proofs.check.Reads as reads
-use Rattle.tables.proofs.check.Lts as lts
-use Rattle.tables.proofs.body.Reads as body-reads
-use Rattle.tables.proofs.failure_of.Reads as failure-of-reads
-use Rattle.tables.proofs.judging.first_line.Reads as first-line-reads
-use Rattle.tables.proofs.walking.walk.Reads as walk-reads
 
--- src/lib.rt:105:9
 returns : tie.Need-returns
 returns c = refuses _ _ _ _ _ _ _ _ (judged-over _ (c .if1 .taken))
 
--- src/lib.rt:107:9
 first-line-requires : tie.Need-first-line-requires
 first-line-requires c κs = search needs
 
--- src/lib.rt:109:9
 enum-known-first : tie.Need-enum-known-first
 enum-known-first c = search needs
 
--- src/lib.rt:115:21
 enum-told : tie.Need-enum-told
 enum-told c = search needs
 
--- src/lib.rt:115:21
 failure-of-requires : tie.Need-failure-of-requires
 failure-of-requires c κs = search needs
 
--- src/lib.rt:114:9
 returns-2 : tie.Need-returns-2
 returns-2 c = refuses _ _ _ _ _ _ _ _ (judged-within _ (c .before .before .before .before .if1 .left) ∙ table-fails _ _ (sym (c .before .before .before .first-line .ensures) ∙ failure-is _ _ _ (c .before .enum-told .given .1) (c .failure-of .ensures)))
 
--- src/lib.rt:123:9
 body-requires : tie.Need-body-requires
 body-requires c κs = table-opens _ _ _ _ (sym (c .before .before .before .before .before .before .before .first-line .ensures) ∙ c .before .before .before .before .before .first .given .1) .1
 
--- src/lib.rt:133:27
 enum-known-checked : tie.Need-enum-known-checked
 enum-known-checked c = search needs
 
--- src/lib.rt:134:9
 enum-told-2 : tie.Need-enum-told-2
 enum-told-2 c = search needs
 
--- src/lib.rt:134:9
 returns-3 : tie.Need-returns-3
 returns-3 c = let all = judged-within _ (c .before .before .before .before .before .before .before .before .before .before .before .if1 .left) ∙ table-opens _ _ _ _ (sym (c .before .before .before .before .before .before .before .before .before .before .first-line .ensures) ∙ c .before .before .before .before .before .before .before .before .first .given .1) .0 in (c .before .before .body .ensures .0 ∙ ap answer (sym all), refuses _ _ _ _ _ _ _ _ (all ∙ answer-refuses _ _ _ (sym (c .before .before .body .ensures .0) ∙ c .enum-told2 .given .1)) .1)
 
--- src/lib.rt:137:5
 walk-requires : tie.Need-walk-requires
 walk-requires c κs = let acc = answer-accepts _ _ (sym (c .before .before .before .before .before .body .ensures .0) ∙ c .before .before .before .checked .given .1) in (rw (acc .2) (c .before .before .before .before .before .body .ensures .1 (acc .0) (acc .1) .terms-fit), refl)
 
--- src/lib.rt:89:1
 returns-4 : tie.Need-returns-4
 returns-4 c = let all = judged-within _ (c .before .before .before .before .before .before .before .before .before .before .before .before .before .before .before .if1 .left) ∙ table-opens _ _ _ _ (sym (c .before .before .before .before .before .before .before .before .before .before .before .before .before .before .first-line .ensures) ∙ c .before .before .before .before .before .before .before .before .before .before .before .before .first .given .1) .0 in let acc = answer-accepts _ _ (sym (c .before .before .before .before .before .before .body .ensures .0) ∙ c .before .before .before .before .checked .given .1) in accepts _ (acc .0) _ _ _ _ _ _ _ _ _ _ _ (all ∙ acc .1) (sym (c .before .before .before .before .checked .given .1) ∙ c .before .before .before .before .before .before .body .ensures .0 ∙ ap answer (sym all)) (c .before .before .before .before .before .before .body .ensures .1 (acc .0) (acc .1)) _ (acc .2) (c .walk .ensures)
 

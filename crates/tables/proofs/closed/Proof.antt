@@ -1,40 +1,29 @@
 use mathlib.Core.Path.{sym, ap, _∙_}
 use Rattle.tables.specs.Columns.{answer}
-use Rattle.tables.specs.Table.{seen}
 use Rattle.tables.proofs.Loop.{answer-accepted, behind-end, behind-no-line, behind-line}
 use borrow.Author.Needs.{needs}
 use Rattle.tables.proofs.closed.Statement.{statement}
 use Rattle.tables.proofs.closed.Tie as tie
-use Rattle.tables.proofs.closed.Reads as reads
-use Rattle.tables.proofs.closed.Lts as lts
-use Rattle.lines.proofs.next_line.Reads as next-line-reads
 
--- src/lib.rt:195:9
 next-line-requires : tie.Need-next-line-requires
 next-line-requires c κs = search needs
 
--- src/lib.rt:197:40
 enum-told : tie.Need-enum-told
 enum-told c = search needs
 
--- src/lib.rt:202:25
 enum-told-2 : tie.Need-enum-told-2
 enum-told-2 c = search needs
 
--- src/lib.rt:203:44
 enum-told-3 : tie.Need-enum-told-3
 enum-told-3 c = search needs
 
--- src/lib.rt:192:1
 returns : tie.Need-returns
 returns c = λ t e. answer-accepted t _ e ∙ ap answer (behind-end t _ _ _ (sym (c .before .before .next-line .ensures) ∙ c .enum-told .given .1))
 
--- src/lib.rt:192:1
 returns-2 : tie.Need-returns-2
 unfolding answer
 returns-2 c = λ t e. ap answer (behind-no-line t _ _ _ (sym (c .before .before .next-line .ensures) ∙ c .enum-told2 .given .1))
 
--- src/lib.rt:192:1
 returns-3 : tie.Need-returns-3
 unfolding answer
 returns-3 c = λ t e. ap answer (behind-line t _ _ _ _ _ (sym (c .before .before .next-line .ensures) ∙ c .enum-told3 .given .1))

@@ -2,7 +2,7 @@
 -- leaf, or a step before the way from the subterm. The digits left fall at each call. Assumes nothing.
 use Prim.Native.Nat.{ℕ, suc, _-_, _+_, _<_}
 use mathlib.Core.Path.{_≡_, _∙_, sym, ap}
-use Rattle.tables.specs.Kind.{subterms}
+use Rattle.frames.specs.Kind.{subterms}
 use Rattle.places.proofs.Ways.{inside, way-done, way-short, way-leaf, way-astray, way-down}
 use borrow.Fn.Kinds.{In}
 use borrow.Fn.PlainCycle.{Measures, is, falls, and}
@@ -11,7 +11,7 @@ use Rattle.places.proofs.descent.descend.Kinds as descend-kinds
 use Rattle.places.proofs.descent.+descend.Lts-descend as descend-lts
 use Rattle.places.proofs.descent.byte_of.Reads as byte-of-reads
 use Rattle.places.proofs.descent.step_to.Reads as step-to-reads
-use Rattle.tables.proofs.subterms.Reads as subterms-reads
+use Rattle.frames.proofs.subterms.Reads as subterms-reads
 use Rattle.places.proofs.descent.+descend.{statement}
 use Rattle.places.proofs.descent.+descend.Tie.{close}
 use borrow.Author.Needs.{needs}

@@ -3,14 +3,10 @@ use Rattle.tables.specs.Code.{started}
 use borrow.Author.Needs.{needs}
 use Rattle.tables.proofs.taking.begin.Statement.{statement}
 use Rattle.tables.proofs.taking.begin.Tie as tie
-use Rattle.tables.proofs.taking.begin.Reads as reads
-use Rattle.tables.proofs.taking.begin.Lts as lts
 
--- src/taking.rt:61:16
 add-t2 : tie.Need-add-t2
 add-t2 c = search needs
 
--- src/taking.rt:54:1
 returns : tie.Need-returns
 unfolding started
 returns c = refl

@@ -3,27 +3,19 @@ use Rattle.tables.proofs.Taken.{topmost-none, topmost-last}
 use borrow.Author.Needs.{needs}
 use Rattle.tables.proofs.taking.last.Statement.{statement}
 use Rattle.tables.proofs.taking.last.Tie as tie
-use Rattle.tables.proofs.taking.last.Reads as reads
-use Rattle.tables.proofs.taking.last.Lts as lts
-use Rattle.tables.proofs.taking.wide.Reads as wide-reads
 
--- src/taking.rt:116:9
 returns : tie.Need-returns
 returns c = topmost-none _ _ (c .if1 .taken)
 
--- src/taking.rt:118:14
 sub-at : tie.Need-sub-at
 sub-at c = search needs
 
--- src/taking.rt:119:10
 element-copy-out-wide : tie.Need-element-copy-out-wide
 element-copy-out-wide c = search needs
 
--- src/taking.rt:119:5
 wide-requires : tie.Need-wide-requires
 wide-requires c κs = search needs
 
--- src/taking.rt:111:1
 returns-2 : tie.Need-returns-2
 returns-2 c = c .wide .ensures ∙ topmost-last _ _ (c .before .before .if1 .left)
 

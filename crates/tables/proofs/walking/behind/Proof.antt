@@ -1,4 +1,4 @@
-use mathlib.Core.Path.{_≡_, _∙_, ap, sym}
+use mathlib.Core.Path.{_∙_, ap}
 use Prim.Native.Nat.{ℕ}
 use lib.ListN.{getD}
 use native.Mathlib.Omega.{arith}
@@ -6,35 +6,25 @@ use Rattle.tables.proofs.Walked.{past-none, past-one, past-two}
 use borrow.Author.Needs.{needs}
 use Rattle.tables.proofs.walking.behind.Statement.{statement}
 use Rattle.tables.proofs.walking.behind.Tie as tie
-use Rattle.tables.proofs.walking.behind.Reads as reads
-use Rattle.tables.proofs.walking.behind.Lts as lts
-use Rattle.tables.proofs.walking.after_of.Reads as after-of-reads
 
--- src/walking.rt:29:16
 cast-result : tie.Need-cast-result
 cast-result c = search needs
 
--- src/walking.rt:29:9
 returns : tie.Need-returns
 returns c = past-none _ _ _ (c .if1 .taken)
 
--- src/walking.rt:31:9
 after-of-requires : tie.Need-after-of-requires
 after-of-requires c κs = search needs
 
--- src/walking.rt:33:9
 returns-2 : tie.Need-returns-2
 returns-2 c = c .before .after-of .ensures ∙ past-one _ _ _ (c .if2 .taken)
 
--- src/walking.rt:35:14
 cast-after-of : tie.Need-cast-after-of
 cast-after-of c = search needs
 
--- src/walking.rt:35:5
 after-of-requires-2 : tie.Need-after-of-requires-2
 after-of-requires-2 c κs = search needs
 
--- src/walking.rt:24:1
 returns-3 : tie.Need-returns-3
 returns-3 c = let xs = c .before .before .before .before .args .after .now in c .after-of2 .ensures ∙ ap (λ (j : ℕ). getD xs j 0) (c .before .before .after-of .ensures) ∙ past-two _ _ _ (omega arith)
 

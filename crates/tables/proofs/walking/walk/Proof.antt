@@ -1,17 +1,13 @@
-use mathlib.Core.Path.{_≡_, _∙_, ap, sym, refl}
-use Prim.Native.Nat.{ℕ, _≤_}
+use mathlib.Core.Path.{_≡_, _∙_, sym, refl}
+use Prim.Native.Nat.{_≤_}
 use borrow.Author.Needs.{needs}
 use native.Mathlib.Omega.{arith}
 use lib.ListN.{length, length-set}
 use Rattle.tables.specs.Columns.{walked}
-use Rattle.tables.proofs.KindLaws.{subterms-most}
+use Rattle.frames.proofs.KindLaws.{subterms-most}
 use Rattle.tables.proofs.Walked.{walked-turn, walked-end}
 use Rattle.tables.proofs.walking.walk.Statement.{statement}
 use Rattle.tables.proofs.walking.walk.Tie as tie
-use Rattle.tables.proofs.walking.walk.Reads as reads
-use Rattle.tables.proofs.walking.walk.Lts as lts
-use Rattle.tables.proofs.kinds.subterms.Reads as subterms-reads
-use Rattle.tables.proofs.walking.behind.Reads as behind-reads
 
 abbrev Inv-loop : tie.InvT-loop
 Inv-loop kinds count after₀ i₀ after i =
@@ -20,48 +16,38 @@ Inv-loop kinds count after₀ i₀ after i =
 abbrev μ-loop : tie.MeasureT-loop
 μ-loop kinds count after₀ i₀ after i = i
 
--- src/walking.rt:14:5
 loop-holds : tie.Need-loop-holds Inv-loop μ-loop
 loop-holds c = (c .pre .0, c .pre .1, refl)
 
--- src/walking.rt:16:9
 sub-i : tie.Need-sub-i Inv-loop μ-loop
 sub-i c = search needs
 
--- src/walking.rt:17:26
 element-copy-out-subterms : tie.Need-element-copy-out-subterms Inv-loop μ-loop
 element-copy-out-subterms c = search needs
 
--- src/walking.rt:17:13
 subterms-requires : tie.Need-subterms-requires Inv-loop μ-loop
 subterms-requires c κs = search needs
 
--- src/walking.rt:18:13
 behind-requires : tie.Need-behind-requires Inv-loop μ-loop
 behind-requires c κs =
     let l = c .before .before .before .before .loop in
     (rw (c .before .subterms .ensures) (subterms-most _), l .inv .0, l .inv .1)
 
--- src/walking.rt:19:9
 mul-after : tie.Need-mul-after Inv-loop μ-loop
 mul-after c = omega arith
 
--- src/walking.rt:19:9
 element-write-after : tie.Need-element-write-after Inv-loop μ-loop
 element-write-after c = omega arith
 
--- src/walking.rt:14:5
 loop-less : tie.Need-loop-less Inv-loop μ-loop
 loop-less c = search needs
 
--- src/walking.rt:14:5
 loop-again : tie.Need-loop-again Inv-loop μ-loop
 loop-again c =
     let l = c .before .before .before .before .before .loop in
     let turn = walked-turn _ _ _ _ _ (c .before .before .before .before .loop-test .taken) (c .before .before .subterms .ensures) (c .behind .ensures) in
     (omega arith, simp length-set (l .inv .1), l .inv .2 ∙ turn)
 
--- src/walking.rt:9:1
 returns : tie.Need-returns Inv-loop μ-loop
 returns c = sym (c .before .loop .inv .2 ∙ walked-end _ _ _ (c .loop-test .left))
 

@@ -1,0 +1,22 @@
+use mathlib.Core.Path.{sym, ap}
+use Rattle.frames.specs.Code.{stop}
+use borrow.Author.Needs.{needs}
+use Rattle.frames.proofs.stop_of.Statement.{statement}
+use Rattle.frames.proofs.stop_of.Tie as tie
+
+enum-told : tie.Need-enum-told
+enum-told c = search needs
+
+enum-known-said : tie.Need-enum-known-said
+enum-known-said c = search needs
+
+returns : tie.Need-returns
+unfolding stop
+returns c = sym (ap stop (c .enum-told .given .1))
+
+returns-2 : tie.Need-returns-2
+unfolding stop
+returns-2 c = sym (ap stop (c .before .said .given .1))
+
+pub stop-of-spec : {M : Type 1} → statement M
+stop-of-spec = tie.close (tie.spec enum-told enum-known-said returns returns-2)

@@ -1,0 +1,49 @@
+use borrow.Author.Needs.{needs}
+use Prim.Native.Nat.{_≤_, _-_}
+use Rattle.judge.proofs.words.say_path.Statement.{statement}
+use Rattle.judge.proofs.words.say_path.Tie as tie
+
+abbrev Inv-loop : tie.InvT-loop
+Inv-loop path count i₀ i = i ≤ 64
+
+abbrev μ-loop : tie.MeasureT-loop
+μ-loop path count i₀ i = 64 - i
+
+loop-holds : tie.Need-loop-holds Inv-loop μ-loop
+loop-holds c = search needs
+
+returns : tie.Need-returns Inv-loop μ-loop
+returns c = search needs
+
+element-copy-out-say-digit : tie.Need-element-copy-out-say-digit Inv-loop μ-loop
+element-copy-out-say-digit c = search needs
+
+say-digit-requires : tie.Need-say-digit-requires Inv-loop μ-loop
+say-digit-requires c κs = search needs
+
+add-i : tie.Need-add-i Inv-loop μ-loop
+add-i c = search needs
+
+loop-less : tie.Need-loop-less Inv-loop μ-loop
+loop-less c = search needs
+
+loop-again : tie.Need-loop-again Inv-loop μ-loop
+loop-again c = search needs
+
+returns-2 : tie.Need-returns-2 Inv-loop μ-loop
+returns-2 c = search needs
+
+pub say-path-spec : {M : Type 1} → statement M
+say-path-spec =
+    tie.close
+    (tie.spec
+    Inv-loop
+    μ-loop
+    loop-holds
+    returns
+    element-copy-out-say-digit
+    say-digit-requires
+    add-i
+    loop-less
+    loop-again
+    returns-2)

@@ -1,0 +1,223 @@
+// What was judged, in words, a line each.
+use places::Literal;
+use places::Placed;
+use places::place;
+use scripts::Step;
+use scripts::next_step;
+use tables::Counts;
+
+const OUT: i32 = 1;
+
+const SCRIPT_ROOM: usize = 65536;
+
+// The refusal that ends the work.
+pub fn say_refusal(what: &[u8], number: u8, line: usize) {
+    io::write_all(OUT, what);
+    io::write_all(OUT, b" refused");
+    say_number(number as u64);
+    io::write_all(OUT, b" at line");
+    say_number(line as u64);
+    end_line();
+}
+
+// What a table holds: its counts, its left-hand sides and its terms.
+pub fn say_table(
+    counts: Counts,
+    kinds: &[u8; 1024],
+    payloads: &[u64; 1024],
+    owners: &[u8; 1024],
+    after: &[u16; 1024],
+    roots: &[u16; 64],
+) {
+    io::write_all(OUT, b"table accepted");
+    say_number(counts.definitions as u64);
+    say_number(counts.events as u64);
+    say_number(counts.terms as u64);
+    end_line();
+    say_lefts(counts.definitions, kinds, owners, after, roots);
+    say_terms(counts.terms, kinds, payloads, owners, after, roots);
+}
+
+fn say_lefts(
+    count: usize,
+    kinds: &[u8; 1024],
+    owners: &[u8; 1024],
+    after: &[u16; 1024],
+    roots: &[u16; 64],
+) {
+    let mut d: u8 = 0;
+    while d < 64 {
+        if count <= d as usize {
+            return;
+        }
+        say_left(d, kinds, owners, after, roots);
+        d += 1;
+    }
+}
+
+fn say_left(
+    d: u8,
+    kinds: &[u8; 1024],
+    owners: &[u8; 1024],
+    after: &[u16; 1024],
+    roots: &[u16; 64],
+) {
+    io::write_all(OUT, b"left");
+    say_number(d as u64);
+    io::write_all(OUT, b" at");
+    say_place(Literal::Left(d), kinds, owners, after, roots);
+    end_line();
+}
+
+fn say_terms(
+    count: usize,
+    kinds: &[u8; 1024],
+    payloads: &[u64; 1024],
+    owners: &[u8; 1024],
+    after: &[u16; 1024],
+    roots: &[u16; 64],
+) {
+    let mut n = 0;
+    while n < 1024 {
+        if count <= n {
+            return;
+        }
+        say_term(n, kinds[n], payloads[n], after[n]);
+        io::write_all(OUT, b" at");
+        say_place(Literal::Own(n), kinds, owners, after, roots);
+        say_event(n, kinds[n], kinds, owners, after, roots);
+        end_line();
+        n += 1;
+    }
+}
+
+fn say_term(n: usize, kind: u8, payload: u64, after: u16) {
+    io::write_all(OUT, b"term");
+    say_number(n as u64);
+    io::write_all(OUT, b" kind");
+    say_number(kind as u64);
+    io::write_all(OUT, b" payload ");
+    io::print_hex(OUT, payload, 1);
+    io::write_all(OUT, b" after");
+    say_number(after as u64);
+}
+
+// The event of a prefix.
+fn say_event(
+    n: usize,
+    kind: u8,
+    kinds: &[u8; 1024],
+    owners: &[u8; 1024],
+    after: &[u16; 1024],
+    roots: &[u16; 64],
+) {
+    if kind == 2 {
+        io::write_all(OUT, b" event");
+        say_place(Literal::Event(n), kinds, owners, after, roots);
+    }
+}
+
+// The place of a literal: its definition and its path.
+fn say_place(
+    literal: Literal,
+    kinds: &[u8; 1024],
+    owners: &[u8; 1024],
+    after: &[u16; 1024],
+    roots: &[u16; 64],
+) {
+    let mut path = [0u8; 64];
+    let placed = place(literal, kinds, owners, after, roots, &mut path);
+    match placed {
+        Placed::At { definition, length } => {
+            say_number(wide(definition));
+            say_gap(length);
+            say_path(&path, length);
+        }
+        Placed::Nowhere => {
+            io::write_all(OUT, b" nowhere");
+        }
+    }
+}
+
+// What each line of a script asks for, up to the first that is refused.
+pub fn say_script(script: &[u8]) {
+    if SCRIPT_ROOM < script.len() {
+        say_refusal(b"script", 6, 0);
+        return;
+    }
+    let mut digits = [0u8; 1024];
+    let mut at = 0;
+    let mut line: usize = 1;
+    while line <= SCRIPT_ROOM {
+        let step = next_step(script, at, &mut digits);
+        let Step::Address { count, next } = step else {
+            say_end(step, line);
+            return;
+        };
+        say_step(line, count, &digits);
+        at = next;
+        line += 1;
+    }
+}
+
+fn say_end(step: Step, line: usize) {
+    if let Step::Refused(number) = step {
+        say_refusal(b"script", number, line);
+    }
+}
+
+fn say_step(line: usize, count: usize, digits: &[u8; 1024]) {
+    io::write_all(OUT, b"step");
+    say_number(line as u64);
+    say_gap(count);
+    say_address(digits, count);
+    end_line();
+}
+
+// Before digits: a blank, and a dash where there are none.
+fn say_gap(count: usize) {
+    if count == 0 {
+        io::write_all(OUT, b" -");
+    } else {
+        io::write_all(OUT, b" ");
+    }
+}
+
+fn say_path(path: &[u8; 64], count: usize) {
+    let mut i = 0;
+    while i < 64 {
+        if count <= i {
+            return;
+        }
+        say_digit(path[i]);
+        i += 1;
+    }
+}
+
+fn say_address(digits: &[u8; 1024], count: usize) {
+    let mut i = 0;
+    while i < 1024 {
+        if count <= i {
+            return;
+        }
+        say_digit(digits[i]);
+        i += 1;
+    }
+}
+
+fn say_digit(digit: u8) {
+    io::print_decimal(OUT, digit as u64);
+}
+
+fn say_number(n: u64) {
+    io::write_all(OUT, b" ");
+    io::print_decimal(OUT, n);
+}
+
+fn end_line() {
+    io::write_all(OUT, b"\n");
+}
+
+fn wide(x: u8) -> u64 {
+    x as u64
+}

@@ -1,0 +1,2 @@
+-- The terms of a table as trees: `Term`.
+pub mod Term
