@@ -285,7 +285,8 @@ checked-roots text s q k t e =
       payloads = payloads s;
       held = rw r at (stands .holds);
       fits = fits;
-      owned = λ j from to. sym (look-in 1024 (owners s) j (omega arith)) ∙ stands .owned j (omega arith) (omega arith);
+      owned = λ j from to.
+          sym (look-in 1024 (owners s) j (omega arith)) ∙ stands .owned j (omega arith) (omega arith);
       shallow = each-at (s .definitions) (s .events) (definitions-of s) (table .each) k t e .0;
     }
 

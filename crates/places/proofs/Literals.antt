@@ -13,8 +13,8 @@ use borrow.Author.Tests.{eq-eqb, ne-eqb}
 use Rattle.lines.specs.Line.{choose}
 use Rattle.frames.specs.Kind.{subterms, prefix}
 use Rattle.tables.proofs.Kept.{sets-snoc}
-use Rattle.places.specs.Code.{Columns, look, next, digit, below, descended, reached, digits, path-of, with-event}
-use Rattle.places.specs.Code.{event-of, literal-path, literal-definition, told, placed, answer}
+use Rattle.places.specs.Code.{Columns, look, next, digit, below, descended, reached, digits}
+use Rattle.places.specs.Code.{path-of, with-event, event-of, literal-path, literal-definition, told, placed, answer}
 use Rattle.places.specs.declared.Literal.{Literal}
 use Rattle.places.specs.declared.Literal.the-variants.{Left, Own, Event}
 use Rattle.places.specs.declared.Placed.{Placed}
