@@ -1,8 +1,8 @@
--- Following terms downward, a step at a time: what a column has at a number, which subterm comes next, and what each end of the way
--- says of the path and of the digits written. Assumes nothing.
-use Prim.Native.Nat.{ℕ, zero, suc, _+_, _-_, _≤_, _<_}
+-- Following terms downward, a step at a time: what a column has at a number, which subterm comes next, and what each end of the
+-- way says of the path and of the digits written. Assumes nothing.
+use Prim.Native.Nat.{ℕ, zero, suc, _+_, _≤_, _<_}
 use mathlib.Core.Path.{_≡_, refl, sym, ap, _∙_}
-use mathlib.Core.Bool.{Bool, true, false, _&&_}
+use mathlib.Core.Bool.{Bool, true, false}
 use mathlib.Core.List.{List, [], _∷_}
 use mathlib.Core.Option.{Option, none, some}
 use native.Mathlib.Omega.{arith}
@@ -10,9 +10,8 @@ use native.Mathlib.Nat.{add-zero}
 use native.Mathlib.Numerals.{add-one}
 use lib.ListN.{length, getD, set}
 use lib.Seq.{sets, set-comm}
-use lib.Dec.{ltb, leb, eqb}
+use lib.Dec.{ltb}
 use borrow.Author.Tests.{ltb-true, lt-ltb, le-ltb, le-leb, lt-leb, eq-eqb, ne-eqb}
-use Rattle.lines.specs.Line.{choose}
 use Rattle.frames.specs.Kind.{subterms}
 use Rattle.places.specs.Code.{look, next, digit, below, descended, reached, digits}
 use Rattle.places.specs.declared.Reached.{Reached}
@@ -52,11 +51,28 @@ module _ (n : ℕ) (xs : List ℕ) (i j : ℕ) where
     step-first h = rw (← is) (simp (eq-eqb n 2 two, lt-leb s j h, lt-ltb j s h) (refl, refl))
 
 -- a store below a run of stores
-set-under : (l : List ℕ) (i j : ℕ) (x : ℕ) (ws : List ℕ) → i < j → set (sets l j ws) i x ≡ sets (set l i x) j ws
+set-under : (l : List ℕ) (i j x : ℕ) (ws : List ℕ) → i < j → set (sets l j ws) i x ≡ sets (set l i x) j ws
 set-under l i j x [] h = refl
 set-under l i j x (w ∷ ws) h =
     set-under (set l j w) i (suc j) x ws (omega arith)
     ∙ ap (λ (m : List ℕ). sets m (suc j) ws) (set-comm l j i w x (λ e. omega arith))
+
+-- the way is at its end, or takes one step more
+module _ (f : ℕ) (ks xs : List ℕ) (i j : ℕ) where
+  pub descended-here : i ≡ j → descended f ks xs i j ≡ some []
+  unfolding descended
+  descended-here e = go f
+    where
+      go : (f : ℕ) → descended f ks xs i j ≡ some []
+      go zero = simp (eq-eqb i j e)
+      go (suc f) = simp (eq-eqb i j e)
+
+  module _ (away : i ≡ j → ⊥) (g n x m : ℕ) (more : f ≡ suc g) (count : n ≡ subterms (look 1024 ks i))
+      (some-of : n ≡ 0 → ⊥) (x-is : x ≡ digit n xs i j) (m-is : m ≡ next n xs i j) where
+    pub descended-step : descended f ks xs i j ≡ below x (descended g ks xs m j)
+    unfolding descended
+    descended-step = rw (more, x-is, m-is, count)
+        (simp (ne-eqb i j away, ne-eqb (subterms (look 1024 ks i)) 0 (λ z. some-of (count ∙ z))))
 
 -- where the way ends, and what is written
 abbrev pub Leaves : ℕ → List ℕ → Option (List ℕ) → Reached → List ℕ → Type 0
@@ -64,12 +80,8 @@ Leaves d p o r q = (r ≡ reached d o) × (q ≡ sets p d (digits o))
 
 module _ (d : ℕ) (p : List ℕ) (f : ℕ) (ks xs : List ℕ) (i j : ℕ) where
   pub way-done : i ≡ j → Leaves d p (descended f ks xs i j) (Ends d) p
-  unfolding descended reached digits
-  way-done e = go f
-    where
-      go : (f : ℕ) → Leaves d p (descended f ks xs i j) (Ends d) p
-      go zero = simp (eq-eqb i j e) (ap Ends (sym (add-zero d)), refl)
-      go (suc f) = simp (eq-eqb i j e) (ap Ends (sym (add-zero d)), refl)
+  unfolding reached digits
+  way-done e = rw (descended-here f ks xs i j e) (ap Ends (sym (add-zero d)), refl)
 
   module _ (away : i ≡ j → ⊥) where
     pub way-short : f ≡ 0 → Leaves d p (descended f ks xs i j) Astray p
@@ -87,11 +99,10 @@ module _ (d : ℕ) (p : List ℕ) (f : ℕ) (ks xs : List ℕ) (i j : ℕ) where
     module _ (g n x m : ℕ) (more : f ≡ suc g) (count : n ≡ subterms (look 1024 ks i)) (some-of : n ≡ 0 → ⊥)
         (x-is : x ≡ digit n xs i j) (m-is : m ≡ next n xs i j) where
       step : descended f ks xs i j ≡ below x (descended g ks xs m j)
-      unfolding descended
-      step = rw (more, x-is, m-is, count)
-          (simp (ne-eqb i j away, ne-eqb (subterms (look 1024 ks i)) 0 (λ z. some-of (count ∙ z))))
+      step = descended-step f ks xs i j away g n x m more count some-of x-is m-is
 
-      pub way-astray : (q : List ℕ) (r : Reached) → r ≡ Astray → Leaves (d + 1) p (descended g ks xs m j) r q → Leaves d p (descended f ks xs i j) r q
+      pub way-astray : (q : List ℕ) (r : Reached) → r ≡ Astray → Leaves (d + 1) p (descended g ks xs m j) r q
+          → Leaves d p (descended f ks xs i j) r q
       unfolding below reached digits
       way-astray q r e h = rw step (go (descended g ks xs m j) h)
         where
@@ -99,8 +110,8 @@ module _ (d : ℕ) (p : List ℕ) (f : ℕ) (ks xs : List ℕ) (i j : ℕ) where
           go none h = h
           go (some w) h = let z : _≡_ {A = ℕ} 0 1 = cc in absurd (omega arith)
 
-      pub way-down : (q : List ℕ) (r : Reached) (e : ℕ) → r ≡ Ends e → Leaves (d + 1) p (descended g ks xs m j) r q
-          → Leaves d p (descended f ks xs i j) (Ends e) (set q d x)
+      pub way-down : (q : List ℕ) (r : Reached) (e : ℕ) → r ≡ Ends e
+          → Leaves (d + 1) p (descended g ks xs m j) r q → Leaves d p (descended f ks xs i j) (Ends e) (set q d x)
       unfolding below reached digits
       way-down q r e k h = rw step (go (descended g ks xs m j) h)
         where
@@ -110,5 +121,6 @@ module _ (d : ℕ) (p : List ℕ) (f : ℕ) (ks xs : List ℕ) (i j : ℕ) where
               let at : d + 1 + length w ≡ e = cc in
               let end : e ≡ d + suc (length w) = omega arith in (
                 ap Ends end,
-                ap (λ (l : List ℕ). set l d x) (h .1) ∙ set-under p d (d + 1) x w (omega arith) ∙ ap (λ (k : ℕ). sets (set p d x) k w) (add-one d),
+                ap (λ (l : List ℕ). set l d x) (h .1) ∙ set-under p d (d + 1) x w (omega arith)
+                    ∙ ap (λ (k : ℕ). sets (set p d x) k w) (add-one d),
               )

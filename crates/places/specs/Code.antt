@@ -1,8 +1,8 @@
 -- What following terms downward computes, whatever the columns hold: from term i, in at most so many digits, to term j, by the
 -- subterm that j stands in. `proofs/Laws.antt` shows that it is the path where the columns hold a term.
-use Prim.Native.Nat.{ℕ, zero, suc, _+_, _-_}
-use mathlib.Core.Bool.{Bool, true, false, _&&_}
-use mathlib.Core.List.{List, [], _∷_, _++_}
+use Prim.Native.Nat.{ℕ, zero, suc, _+_}
+use mathlib.Core.Bool.{_&&_}
+use mathlib.Core.List.{List, [], _∷_}
 use mathlib.Core.Option.{Option, none, some}
 use lib.ListN.{length, getD}
 use lib.Dec.{ltb, leb, eqb}

@@ -2,10 +2,8 @@
 -- right-hand side's root has the empty path. Subterms of a term at w are at w.1 and w.2; a prefix's event is at w.1, its arrow at
 -- w, its continuation at w.2.
 use Prim.Native.Nat.{ℕ, zero, suc, _+_, _-_}
-use mathlib.Core.Bool.{Bool, true, false}
 use mathlib.Core.List.{List, [], _∷_, _++_}
 use mathlib.Core.Option.{Option, none, some}
-use lib.ListN.{getD}
 use lib.Dec.{ltb, eqb}
 use Rattle.lines.specs.Line.{choose}
 use Rattle.terms.specs.Term.{Term, leaf, prefix, binary, size}
@@ -21,6 +19,23 @@ path-in (prefix e t) zero = []
 path-in (prefix e t) (suc n) = 2 ∷ path-in t n
 path-in (binary o t u) zero = []
 path-in (binary o t u) (suc n) = choose (ltb n (size t)) (1 ∷ path-in t n) (2 ∷ path-in u (n - size t))
+
+-- number n itself
+unfoldable pub term-at : Term → ℕ → Term
+term-at (leaf l) n = leaf l
+term-at (prefix e t) zero = prefix e t
+term-at (prefix e t) (suc n) = term-at t n
+term-at (binary o t u) zero = binary o t u
+term-at (binary o t u) (suc n) = choose (ltb n (size t)) (term-at t n) (term-at u (n - size t))
+
+abbrev pub IsPrefix : Term → Type 0
+IsPrefix (leaf l) = ⊥
+IsPrefix (prefix e t) = Unit {0}
+IsPrefix (binary o t u) = ⊥
+
+-- number n is a prefix, which a number past the last is not
+abbrev pub PrefixAt : Term → ℕ → Type 0
+PrefixAt t n = IsPrefix (term-at t n)
 
 -- the path of an event, below its prefix
 abbrev pub event-path : List ℕ → List ℕ

@@ -1,3 +1,5 @@
+-- `places::event_to` meets its contract. A term that is no prefix has no event; a prefix's path has at most 63 digits, so that
+-- the event's digit fits behind it. Assumes nothing.
 use native.Mathlib.Omega.{arith}
 use mathlib.Core.Path.{_∙_, sym}
 use Rattle.places.specs.Code.{columns}
@@ -5,46 +7,45 @@ use Rattle.places.proofs.Literals.{event-none, event-astray, event-room
 use borrow.Author.Needs.{needs}
 use Rattle.places.proofs.event_to.Statement.{statement}
 use Rattle.places.proofs.event_to.Tie as tie
-use Rattle.places.proofs.event_to.Reads as reads
-use Rattle.places.proofs.event_to.Lts as lts
-use Rattle.places.proofs.descent.byte_of.Reads as byte-of-reads
-use Rattle.places.proofs.path_to.Reads as path-to-reads
 
--- src/lib.rt:118:9
 byte-of-requires : tie.Need-byte-of-requires
 byte-of-requires c κs = search needs
 
--- src/lib.rt:120:9
 returns : tie.Need-returns
-returns c = let a = c .before .before .args in event-none (columns (a .kinds .now) (a .owners .now) (a .after .now) (a .roots .now)) _ _ (λ e. c .if1 .taken (c .before .byte-of .ensures ∙ e))
+returns c = event-none (columns _ _ _ _) _ _ (λ e. c .if1 .taken (c .before .byte-of .ensures ∙ e))
 
--- src/lib.rt:122:9
 path-to-requires : tie.Need-path-to-requires
 path-to-requires c κs = search needs
 
--- src/lib.rt:123:23
 enum-known-reached : tie.Need-enum-known-reached
 enum-known-reached c = search needs
 
--- src/lib.rt:124:9
 enum-told : tie.Need-enum-told
 enum-told c = search needs
 
--- src/lib.rt:124:9
 returns-2 : tie.Need-returns-2
-returns-2 c = let a = c .before .before .before .before .before .before .args in event-astray (columns (a .kinds .now) (a .owners .now) (a .after .now) (a .roots .now)) _ _ (sym (c .before .before .before .before .before .byte-of .ensures) ∙ c .before .before .before .before .if1 .left) _ _ (c .before .before .path-to .ensures) (c .enum-told .given .1)
+returns-2 c =
+    let b = c .before .before in
+    let is = sym (b .before .before .before .byte-of .ensures) ∙ b .before .before .if1 .left in
+    event-astray (columns _ _ _ _) _ _ is _ _ (b .path-to .ensures) (c .enum-told .given .1)
 
--- src/lib.rt:126:5
 element-write-path : tie.Need-element-write-path
-element-write-path c = let a = c .before .before .before .before .before .before .before .args in let e = event-room (columns (a .kinds .now) (a .owners .now) (a .after .now) (a .roots .now)) _ _ (sym (c .before .before .before .before .before .before .byte-of .ensures) ∙ c .before .before .before .before .before .if1 .left) _ _ (c .before .before .before .path-to .ensures) _ (c .before .reached .given .1) in omega arith
+element-write-path c =
+    let b = c .before .before .before in
+    let is = sym (b .before .before .before .byte-of .ensures) ∙ b .before .before .if1 .left in
+    let at = c .before .reached .given .1 in
+    let e = event-room (columns _ _ _ _) _ _ is _ _ (b .path-to .ensures) _ at in
+    omega arith
 
--- src/lib.rt:127:19
 add-t14 : tie.Need-add-t14
-add-t14 c = let a = c .before .before .before .before .before .before .before .args in let e = event-room (columns (a .kinds .now) (a .owners .now) (a .after .now) (a .roots .now)) _ _ (sym (c .before .before .before .before .before .before .byte-of .ensures) ∙ c .before .before .before .before .before .if1 .left) _ _ (c .before .before .before .path-to .ensures) _ (c .before .reached .given .1) in omega arith
+add-t14 c = omega (arith, element-write-path c)
 
--- src/lib.rt:107:1
 returns-3 : tie.Need-returns-3
-returns-3 c = let a = c .before .before .before .before .before .before .before .args in event-ends (columns (a .kinds .now) (a .owners .now) (a .after .now) (a .roots .now)) _ _ (sym (c .before .before .before .before .before .before .byte-of .ensures) ∙ c .before .before .before .before .before .if1 .left) _ _ (c .before .before .before .path-to .ensures) _ (c .before .reached .given .1)
+returns-3 c =
+    let b = c .before .before .before in
+    let is = sym (b .before .before .before .byte-of .ensures) ∙ b .before .before .if1 .left in
+    let at = c .before .reached .given .1 in
+    event-ends (columns _ _ _ _) _ _ is _ _ (b .path-to .ensures) _ at
 
 pub event-to-spec : {M : Type 1} → statement M
 event-to-spec =

@@ -1,20 +1,15 @@
-use mathlib.Core.Path.{_∙_}
+-- `places::descent::byte_of` meets its contract, inside the column and past its end. Assumes nothing.
 use Rattle.places.proofs.Ways.{look-in, look-out}
 use borrow.Author.Needs.{needs}
 use Rattle.places.proofs.descent.byte_of.Statement.{statement}
 use Rattle.places.proofs.descent.byte_of.Tie as tie
-use Rattle.places.proofs.descent.byte_of.Reads as reads
-use Rattle.places.proofs.descent.byte_of.Lts as lts
 
--- src/descent.rt:74:19
 element-copy-out-result : tie.Need-element-copy-out-result
 element-copy-out-result c = search needs
 
--- src/descent.rt:71:1
 returns : tie.Need-returns
 returns c = look-in _ _ _ (c .before .if1 .taken)
 
--- src/descent.rt:71:1
 returns-2 : tie.Need-returns-2
 returns-2 c = look-out _ _ _ (c .if1 .left)
 
