@@ -18,6 +18,7 @@ use Rattle.frames.specs.Code.{said}
 use Rattle.tables.specs.Code.{Ready, begins, Filled, seen-then, waiting-then, roots-then, column-then}
 use Rattle.frames.specs.declared.Frame.{Frame}
 use Rattle.frames.specs.declared.Seen.{Seen}
+use Rattle.frames.specs.declared.Said.{Said}
 use Rattle.frames.specs.declared.Said.the-variants.{Goes, Stops}
 use Rattle.tables.specs.declared.Counts.{Counts}
 use Rattle.tables.specs.declared.Checked.{Checked}
@@ -52,15 +53,16 @@ unfolding behind
 behind-accepts S T n [] e = cc
 behind-accepts S T n (l ∷ ls) e = let z : _≡_ {A = ℕ} 0 1 = cc in absurd (omega arith)
 
-module _ (text : List ℕ) (from d ev : ℕ) (k₀ p₀ o₀ r₀ : List ℕ) where
-  abbrev whole : Judged
-  whole = rest (begins d ev) 2 (lines (drop from text))
+-- what is judged of all lines behind line 1
+abbrev whole : List ℕ → ℕ → ℕ → ℕ → Judged
+whole text from d ev = rest (begins d ev) 2 (lines (drop from text))
 
+module _ (text : List ℕ) (from d ev : ℕ) (k₀ p₀ o₀ r₀ : List ℕ) where
   -- what holds at each turn
   pub record Going (k p o r w : List ℕ) (s : Seen) (at line : ℕ) : Type 0 where
     pub sofar : Sofar
     pub keeps : Keeps sofar s w k p o r k₀ p₀ o₀ r₀
-    pub work : whole ≡ rest sofar line (lines (drop at text))
+    pub work : whole text from d ev ≡ rest sofar line (lines (drop at text))
     pub counted : line ≤ at + 2
 
   pub going-starts : d ≤ 64 → Going k₀ p₀ o₀ r₀ (replicate 65 0) (record { definitions = d; events = ev; begun = 0; terms = 0; due = 0; depth = 0 }) from 2
@@ -84,60 +86,61 @@ module _ (text : List ℕ) (from d ev : ℕ) (k₀ p₀ o₀ r₀ : List ℕ) wh
     counted = omega arith;
   }
 
-  module _ (k p o r w : List ℕ) (s : Seen) (at line : ℕ) (g : Going k p o r w s at line) where
-    by-sofar : (x : Rattle.frames.specs.declared.Said.Said) → x ≡ said (λ (f : Frame). refusal f s) at (lines (drop at text))
-        → said (λ (f : Frame). refusal f (seen (g .sofar))) at (lines (drop at text)) ≡ x
-    by-sofar x e = sym (rw (g .keeps .sees) at e)
+module _ {text : List ℕ} {from d ev : ℕ} {k₀ p₀ o₀ r₀ k p o r w : List ℕ} {s : Seen} {at line : ℕ}
+    (g : Going text from d ev k₀ p₀ o₀ r₀ k p o r w s at line) where
+  by-sofar : (x : Said) → x ≡ said (λ (f : Frame). refusal f s) at (lines (drop at text))
+      → said (λ (f : Frame). refusal f (seen (g .sofar))) at (lines (drop at text)) ≡ x
+  by-sofar x e = sym (rw (g .keeps .sees) at e)
 
-    pub going-stops : (n : ℕ) → Stops n ≡ said (λ (f : Frame). refusal f s) at (lines (drop at text))
-        → (Refused n line ≡ answer whole) × ((t : Sofar) → whole ≡ accepted t → Filled t k p o r k₀ p₀ o₀ r₀)
-    unfolding answer
-    going-stops n e =
-        let over : whole ≡ refused n line = g .work ∙ rest-stops (g .sofar) text at line n (by-sofar (Stops n) e) in
-        (rw over, λ t q. let z : _≡_ {A = ℕ} 0 1 = cc in absurd (omega arith))
+  pub going-stops : (n : ℕ) → Stops n ≡ said (λ (f : Frame). refusal f s) at (lines (drop at text))
+      → (Refused n line ≡ answer (whole text from d ev)) × ((t : Sofar) → whole text from d ev ≡ accepted t → Filled t k p o r k₀ p₀ o₀ r₀)
+  unfolding answer
+  going-stops n e =
+      let over : whole text from d ev ≡ refused n line = g .work ∙ rest-stops (g .sofar) text at line n (by-sofar (Stops n) e) in
+      (rw over, λ t q. let z : _≡_ {A = ℕ} 0 1 = cc in absurd (omega arith))
 
-    module _ (f : Frame) (next : ℕ) (e : Goes f next ≡ said (λ (f : Frame). refusal f s) at (lines (drop at text))) where
-      went : Went (g .sofar) text at line f next
-      went = rest-goes (g .sofar) text at line f next (by-sofar (Goes f next) e)
+  module _ {f : Frame} {next : ℕ} (e : Goes f next ≡ said (λ (f : Frame). refusal f s) at (lines (drop at text))) where
+    went : Went (g .sofar) text at line f next
+    went = rest-goes (g .sofar) text at line f next (by-sofar (Goes f next) e)
 
-      pub going-on : (at < next) × (next ≤ length text)
-      going-on = (went .on, went .within)
+    pub going-on : (at < next) × (next ≤ length text)
+    going-on = (went .on, went .within)
 
-      fine : refusal f s ≡ 0
-      fine = rw (g .keeps .sees) (went .fine)
+    fine : refusal f s ≡ 0
+    fine = rw (g .keeps .sees) (went .fine)
 
-      pub going-ready : Ready f s
-      going-ready = ready (g .sofar) s w k p o r k₀ p₀ o₀ r₀ (g .keeps) f fine
+    pub going-ready : Ready f s
+    going-ready = ready (g .sofar) s w k p o r k₀ p₀ o₀ r₀ (g .keeps) f fine
 
-      pub going-closes : closes f ≡ true → (x : Checked) → ((t : Sofar) → s ≡ seen t → x ≡ answer (behind t (line + 1) (lines (drop next text))))
-          → (x ≡ answer whole) × ((t : Sofar) → whole ≡ accepted t → Filled t k p o r k₀ p₀ o₀ r₀)
-      going-closes c x h =
-          let over : whole ≡ behind (g .sofar) (line + 1) (lines (drop next text)) = g .work ∙ (rw c at (went .then)) in (
-            h (g .sofar) (g .keeps .sees) ∙ ap answer (sym over),
-            λ t q.
-                let same : g .sofar ≡ t = behind-accepts (g .sofar) t (line + 1) (lines (drop next text)) (sym over ∙ q) in
-                let K = g .keeps in
-                subst (λ (u : Sofar). Filled u k p o r k₀ p₀ o₀ r₀) same (record {
-                  kinds-are = K .kinds-are;
-                  payloads-are = K .payloads-are;
-                  owners-are = K .owners-are;
-                  roots-are = K .roots-are;
-                  terms-fit = K .terms-fit;
-                  roots-fit = omega (arith, K .begun-fit, K .definitions-fit);
-                }),
-          )
+    pub going-closes : closes f ≡ true → (x : Checked) → ((t : Sofar) → s ≡ seen t → x ≡ answer (behind t (line + 1) (lines (drop next text))))
+        → (x ≡ answer (whole text from d ev)) × ((t : Sofar) → whole text from d ev ≡ accepted t → Filled t k p o r k₀ p₀ o₀ r₀)
+    going-closes c x h =
+        let over : whole text from d ev ≡ behind (g .sofar) (line + 1) (lines (drop next text)) = g .work ∙ (rw c at (went .then)) in (
+          h (g .sofar) (g .keeps .sees) ∙ ap answer (sym over),
+          λ t q.
+              let same : g .sofar ≡ t = behind-accepts (g .sofar) t (line + 1) (lines (drop next text)) (sym over ∙ q) in
+              let K = g .keeps in
+              subst (λ (u : Sofar). Filled u k p o r k₀ p₀ o₀ r₀) same (record {
+                kinds-are = K .kinds-are;
+                payloads-are = K .payloads-are;
+                owners-are = K .owners-are;
+                roots-are = K .roots-are;
+                terms-fit = K .terms-fit;
+                roots-fit = omega (arith, K .begun-fit, K .definitions-fit);
+              }),
+        )
 
-      going-again : closes f ≡ false
-          → Going (column-then (λ kk pp. kk) f s k) (column-then (λ kk pp. pp) f s p) (column-then (λ kk pp. s .begun - 1) f s o)
-          (roots-then f s r) (waiting-then f s w) (seen-then f s w) next (line + 1)
-      going-again c = record {
-        sofar = taken (g .sofar) f;
-        keeps = keeps-on (g .sofar) s w k p o r k₀ p₀ o₀ r₀ (g .keeps) f fine c;
-        work = g .work ∙ (rw c at (went .then));
-        counted = omega (arith, g .counted, went .on);
-      }
+    going-again : closes f ≡ false
+        → Going text from d ev k₀ p₀ o₀ r₀ (column-then (λ kk pp. kk) f s k) (column-then (λ kk pp. pp) f s p) (column-then (λ kk pp. s .begun - 1) f s o)
+        (roots-then f s r) (waiting-then f s w) (seen-then f s w) next (line + 1)
+    going-again c = record {
+      sofar = taken (g .sofar) f;
+      keeps = keeps-on (g .sofar) s w k p o r k₀ p₀ o₀ r₀ (g .keeps) f fine c;
+      work = g .work ∙ (rw c at (went .then));
+      counted = omega (arith, g .counted, went .on);
+    }
 
-      pub going-turn : closes f ≡ false → (k′ p′ o′ r′ w′ : List ℕ) (s′ : Seen) → s′ ≡ seen-then f s w → w′ ≡ waiting-then f s w
-          → k′ ≡ column-then (λ kk pp. kk) f s k → p′ ≡ column-then (λ kk pp. pp) f s p
-          → o′ ≡ column-then (λ kk pp. s .begun - 1) f s o → r′ ≡ roots-then f s r → Going k′ p′ o′ r′ w′ s′ next (line + 1)
-      going-turn c k′ p′ o′ r′ w′ s′ e₁ e₂ e₃ e₄ e₅ e₆ = rw (e₁, e₂, e₃, e₄, e₅, e₆) (going-again c)
+    pub going-turn : closes f ≡ false → (k′ p′ o′ r′ w′ : List ℕ) (s′ : Seen) → s′ ≡ seen-then f s w → w′ ≡ waiting-then f s w
+        → k′ ≡ column-then (λ kk pp. kk) f s k → p′ ≡ column-then (λ kk pp. pp) f s p
+        → o′ ≡ column-then (λ kk pp. s .begun - 1) f s o → r′ ≡ roots-then f s r → Going text from d ev k₀ p₀ o₀ r₀ k′ p′ o′ r′ w′ s′ next (line + 1)
+    going-turn c k′ p′ o′ r′ w′ s′ e₁ e₂ e₃ e₄ e₅ e₆ = rw (e₁, e₂, e₃, e₄, e₅, e₆) (going-again c)

@@ -32,31 +32,57 @@ stop-of-requires : tie.Need-stop-of-requires Inv-loop μ-loop
 stop-of-requires c κs = search needs
 
 returns : tie.Need-returns Inv-loop μ-loop
-returns c = going-stops _ _ _ _ _ _ _ _ _ _ _ _ _ _ _ _ (c .before .before .before .before .loop .inv) _ (stops-is _ _ _ (c .before .enum-told .given .1) (c .stop-of .ensures) ∙ c .before .before .before .table-line .ensures)
+returns c =
+    let p = c .before in
+    let p1 = p .before .before in
+    going-stops (p1 .before .loop .inv) _ (stops-is _ _ _ (p .enum-told .given .1) (c .stop-of .ensures) ∙ p1 .table-line .ensures)
 
 closes-requires : tie.Need-closes-requires Inv-loop μ-loop
 closes-requires c κs = search needs
 
 add-closed : tie.Need-add-closed Inv-loop μ-loop
-add-closed c = omega (arith, c .before .before .before .before .before .before .loop .inv .counted, c .before .before .before .before .before .before .before .before .good .0, going-on _ _ _ _ _ _ _ _ _ _ _ _ _ _ _ _ (c .before .before .before .before .before .before .loop .inv) _ _ (sym (c .before .before .before .said .given .1) ∙ c .before .before .before .before .before .table-line .ensures))
+add-closed c =
+    let p = c .before .before .before in
+    let p1 = p .before .before in
+    let p3 = p1 .before .before .before in
+    omega (arith, p1 .before .loop .inv .counted, p3 .good .0, going-on (p1 .before .loop .inv) (sym (p .said .given .1) ∙ p1 .table-line .ensures))
 
 closed-requires : tie.Need-closed-requires Inv-loop μ-loop
 closed-requires c κs = search needs
 
 returns-2 : tie.Need-returns-2 Inv-loop μ-loop
-returns-2 c = going-closes _ _ _ _ _ _ _ _ _ _ _ _ _ _ _ _ (c .before .before .before .before .before .before .before .loop .inv) _ _ (sym (c .before .before .before .before .said .given .1) ∙ c .before .before .before .before .before .before .table-line .ensures) (sym (c .before .before .closes .ensures) ∙ c .before .if1 .taken) _ (c .closed .ensures)
+returns-2 c =
+    let p = c .before in
+    let p2 = p .before .before .before in
+    let p3 = p2 .before .before in
+    going-closes (p3 .before .loop .inv) (sym (p2 .said .given .1) ∙ p3 .table-line .ensures) (sym (p .before .closes .ensures) ∙ p .if1 .taken) _ (c .closed .ensures)
 
 take-requires : tie.Need-take-requires Inv-loop μ-loop
-take-requires c κs = going-ready _ _ _ _ _ _ _ _ _ _ _ _ _ _ _ _ (c .before .before .before .before .before .before .before .before .before .before .before .loop .inv) _ _ (sym (c .before .before .before .before .before .before .before .before .said .given .1) ∙ c .before .before .before .before .before .before .before .before .before .before .table-line .ensures)
+take-requires c κs =
+    let p = c .before .before .before .before .before .before .before .before in
+    let p1 = p .before .before in
+    going-ready (p1 .before .loop .inv) (sym (p .said .given .1) ∙ p1 .table-line .ensures)
 
 add-line : tie.Need-add-line Inv-loop μ-loop
-add-line c = omega (arith, c .before .before .before .before .before .before .before .before .before .before .before .before .loop .inv .counted, c .before .before .before .before .before .before .before .before .before .before .before .before .before .before .good .0, going-on _ _ _ _ _ _ _ _ _ _ _ _ _ _ _ _ (c .before .before .before .before .before .before .before .before .before .before .before .before .loop .inv) _ _ (sym (c .before .before .before .before .before .before .before .before .before .said .given .1) ∙ c .before .before .before .before .before .before .before .before .before .before .before .table-line .ensures))
+add-line c =
+    let p = c .before .before .before .before .before .before .before .before .before in
+    let p1 = p .before .before in
+    let p3 = p1 .before .before .before in
+    omega (arith, p1 .before .loop .inv .counted, p3 .good .0, going-on (p1 .before .loop .inv) (sym (p .said .given .1) ∙ p1 .table-line .ensures))
 
 loop-less : tie.Need-loop-less Inv-loop μ-loop
-loop-less c = omega (arith, going-on _ _ _ _ _ _ _ _ _ _ _ _ _ _ _ _ (c .before .before .before .before .before .before .before .before .before .before .before .before .loop .inv) _ _ (sym (c .before .before .before .before .before .before .before .before .before .said .given .1) ∙ c .before .before .before .before .before .before .before .before .before .before .before .table-line .ensures))
+loop-less c =
+    let p = c .before .before .before .before .before .before .before .before .before in
+    let p1 = p .before .before in
+    omega (arith, going-on (p1 .before .loop .inv) (sym (p .said .given .1) ∙ p1 .table-line .ensures))
 
 loop-again : tie.Need-loop-again Inv-loop μ-loop
-loop-again c = let t = c .take .ensures in going-turn _ _ _ _ _ _ _ _ _ _ _ _ _ _ _ _ (c .before .before .before .before .before .before .before .before .before .before .before .before .loop .inv) _ _ (sym (c .before .before .before .before .before .before .before .before .before .said .given .1) ∙ c .before .before .before .before .before .before .before .before .before .before .before .table-line .ensures) (sym (c .before .before .before .before .before .before .before .closes .ensures) ∙ c .before .before .before .before .before .before .if1 .left) _ _ _ _ _ _ (t .0) (t .1 .0) (t .1 .1 .0) (t .1 .1 .1 .0) (t .1 .1 .1 .1 .0) (t .1 .1 .1 .1 .1)
+loop-again c =
+    let p = c .before .before .before .before .before .before in
+    let p2 = p .before .before .before in
+    let p3 = p2 .before .before in
+    let t = c .take .ensures in
+    going-turn (p3 .before .loop .inv) (sym (p2 .said .given .1) ∙ p3 .table-line .ensures) (sym (p .before .closes .ensures) ∙ p .if1 .left) _ _ _ _ _ _ (t .0) (t .1 .0) (t .1 .1 .0) (t .1 .1 .1 .0) (t .1 .1 .1 .1 .0) (t .1 .1 .1 .1 .1)
 
 pub body-spec : {M : Type 1} → statement M
 body-spec =

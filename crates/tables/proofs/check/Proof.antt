@@ -21,10 +21,16 @@ failure-of-requires : tie.Need-failure-of-requires
 failure-of-requires c κs = search needs
 
 returns-2 : tie.Need-returns-2
-returns-2 c = refuses _ _ _ _ _ _ _ _ (judged-within _ (c .before .before .before .before .if1 .left) ∙ table-fails _ _ (sym (c .before .before .before .first-line .ensures) ∙ failure-is _ _ _ (c .before .enum-told .given .1) (c .failure-of .ensures)))
+returns-2 c =
+    let p = c .before in
+    let p1 = p .before .before in
+    refuses _ _ _ _ _ _ _ _ (judged-within _ (p1 .before .if1 .left) ∙ table-fails _ _ (sym (p1 .first-line .ensures) ∙ failure-is _ _ _ (p .enum-told .given .1) (c .failure-of .ensures)))
 
 body-requires : tie.Need-body-requires
-body-requires c κs = table-opens _ _ _ _ (sym (c .before .before .before .before .before .before .before .first-line .ensures) ∙ c .before .before .before .before .before .first .given .1) .1
+body-requires c κs =
+    let p = c .before .before .before .before .before in
+    let p1 = p .before .before in
+    table-opens _ _ _ _ (sym (p1 .first-line .ensures) ∙ p .first .given .1) .1
 
 enum-known-checked : tie.Need-enum-known-checked
 enum-known-checked c = search needs
@@ -33,13 +39,29 @@ enum-told-2 : tie.Need-enum-told-2
 enum-told-2 c = search needs
 
 returns-3 : tie.Need-returns-3
-returns-3 c = let all = judged-within _ (c .before .before .before .before .before .before .before .before .before .before .before .if1 .left) ∙ table-opens _ _ _ _ (sym (c .before .before .before .before .before .before .before .before .before .before .first-line .ensures) ∙ c .before .before .before .before .before .before .before .before .first .given .1) .0 in (c .before .before .body .ensures .0 ∙ ap answer (sym all), refuses _ _ _ _ _ _ _ _ (all ∙ answer-refuses _ _ _ (sym (c .before .before .body .ensures .0) ∙ c .enum-told2 .given .1)) .1)
+returns-3 c =
+    let p = c .before .before in
+    let p1 = p .before .before .before .before .before .before in
+    let p2 = p1 .before .before in
+    let all = judged-within _ (p2 .before .if1 .left) ∙ table-opens _ _ _ _ (sym (p2 .first-line .ensures) ∙ p1 .first .given .1) .0 in
+    (p .body .ensures .0 ∙ ap answer (sym all), refuses _ _ _ _ _ _ _ _ (all ∙ answer-refuses _ _ _ (sym (p .body .ensures .0) ∙ c .enum-told2 .given .1)) .1)
 
 walk-requires : tie.Need-walk-requires
-walk-requires c κs = let acc = answer-accepts _ _ (sym (c .before .before .before .before .before .body .ensures .0) ∙ c .before .before .before .checked .given .1) in (rw (acc .2) (c .before .before .before .before .before .body .ensures .1 (acc .0) (acc .1) .terms-fit), refl)
+walk-requires c κs =
+    let p = c .before .before .before in
+    let p1 = p .before .before in
+    let acc = answer-accepts _ _ (sym (p1 .body .ensures .0) ∙ p .checked .given .1) in
+    (rw (acc .2) (p1 .body .ensures .1 (acc .0) (acc .1) .terms-fit), refl)
 
 returns-4 : tie.Need-returns-4
-returns-4 c = let all = judged-within _ (c .before .before .before .before .before .before .before .before .before .before .before .before .before .before .before .if1 .left) ∙ table-opens _ _ _ _ (sym (c .before .before .before .before .before .before .before .before .before .before .before .before .before .before .first-line .ensures) ∙ c .before .before .before .before .before .before .before .before .before .before .before .before .first .given .1) .0 in let acc = answer-accepts _ _ (sym (c .before .before .before .before .before .before .body .ensures .0) ∙ c .before .before .before .before .checked .given .1) in accepts _ (acc .0) _ _ _ _ _ _ _ _ _ _ _ (all ∙ acc .1) (sym (c .before .before .before .before .checked .given .1) ∙ c .before .before .before .before .before .before .body .ensures .0 ∙ ap answer (sym all)) (c .before .before .before .before .before .before .body .ensures .1 (acc .0) (acc .1)) _ (acc .2) (c .walk .ensures)
+returns-4 c =
+    let p = c .before .before .before .before in
+    let p1 = p .before .before in
+    let p2 = p1 .before .before .before .before .before .before in
+    let p3 = p2 .before .before in
+    let all = judged-within _ (p3 .before .if1 .left) ∙ table-opens _ _ _ _ (sym (p3 .first-line .ensures) ∙ p2 .first .given .1) .0 in
+    let acc = answer-accepts _ _ (sym (p1 .body .ensures .0) ∙ p .checked .given .1) in
+    accepts _ (acc .0) _ _ _ _ _ _ _ _ _ _ _ (all ∙ acc .1) (sym (p .checked .given .1) ∙ p1 .body .ensures .0 ∙ ap answer (sym all)) (p1 .body .ensures .1 (acc .0) (acc .1)) _ (acc .2) (c .walk .ensures)
 
 pub check-spec : {M : Type 1} → statement M
 check-spec =

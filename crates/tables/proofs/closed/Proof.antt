@@ -18,15 +18,21 @@ enum-told-3 : tie.Need-enum-told-3
 enum-told-3 c = search needs
 
 returns : tie.Need-returns
-returns c = λ t e. answer-accepted t _ e ∙ ap answer (behind-end t _ _ _ (sym (c .before .before .next-line .ensures) ∙ c .enum-told .given .1))
+returns c =
+    let p = c .before .before in
+    λ t e. answer-accepted t _ e ∙ ap answer (behind-end t _ _ _ (sym (p .next-line .ensures) ∙ c .enum-told .given .1))
 
 returns-2 : tie.Need-returns-2
 unfolding answer
-returns-2 c = λ t e. ap answer (behind-no-line t _ _ _ (sym (c .before .before .next-line .ensures) ∙ c .enum-told2 .given .1))
+returns-2 c =
+    let p = c .before .before in
+    λ t e. ap answer (behind-no-line t _ _ _ (sym (p .next-line .ensures) ∙ c .enum-told2 .given .1))
 
 returns-3 : tie.Need-returns-3
 unfolding answer
-returns-3 c = λ t e. ap answer (behind-line t _ _ _ _ _ (sym (c .before .before .next-line .ensures) ∙ c .enum-told3 .given .1))
+returns-3 c =
+    let p = c .before .before in
+    λ t e. ap answer (behind-line t _ _ _ _ _ (sym (p .next-line .ensures) ∙ c .enum-told3 .given .1))
 
 pub closed-spec : {M : Type 1} → statement M
 closed-spec =

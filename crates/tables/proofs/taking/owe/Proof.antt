@@ -23,13 +23,20 @@ last-requires : tie.Need-last-requires
 last-requires c κs = search needs
 
 returns : tie.Need-returns
-returns c = let e : subterms (c .before .before .before .before .before .before .before .args .kind) ≡ 0 = sym (c .before .before .before .before .before .before .subterms .ensures) ∙ c .before .before .if1 .taken in (owed-leaf _ _ _ e _ (c .last .ensures), pushed-not _ _ _ (λ z. omega arith))
+returns c =
+    let p = c .before .before in
+    let p1 = p .before .before .before .before in
+    let e : subterms (p1 .before .args .kind) ≡ 0 = sym (p1 .subterms .ensures) ∙ p .if1 .taken in
+    (owed-leaf _ _ _ e _ (c .last .ensures), pushed-not _ _ _ (λ z. omega arith))
 
 add-t11 : tie.Need-add-t11
 add-t11 c = search needs
 
 returns-2 : tie.Need-returns-2
-returns-2 c = let e : subterms (c .before .before .before .before .before .before .args .kind) ≡ 1 = sym (c .before .before .before .before .before .subterms .ensures) ∙ c .if2 .taken in (owed-more _ _ _ 1 e (λ z. omega arith), pushed-not _ _ _ (λ z. omega arith))
+returns-2 c =
+    let p = c .before .before .before .before .before in
+    let e : subterms (p .before .args .kind) ≡ 1 = sym (p .subterms .ensures) ∙ c .if2 .taken in
+    (owed-more _ _ _ 1 e (λ z. omega arith), pushed-not _ _ _ (λ z. omega arith))
 
 cast-waiting : tie.Need-cast-waiting
 cast-waiting c = search needs
@@ -41,7 +48,11 @@ add-t15 : tie.Need-add-t15
 add-t15 c = search needs
 
 returns-3 : tie.Need-returns-3
-returns-3 c = let e : subterms (c .before .before .before .before .before .before .args .kind) ≡ 2 = omega (arith, c .before .before .before .before .before .subterms .ensures, c .before .if1 .left, c .if2 .left, subterms-most (c .before .before .before .before .before .before .args .kind)) in (owed-more _ _ _ 2 e (λ z. omega arith), pushed-two _ _ _ e)
+returns-3 c =
+    let p = c .before in
+    let p1 = p .before .before .before .before in
+    let e : subterms (p1 .before .args .kind) ≡ 2 = omega (arith, p1 .subterms .ensures, p .if1 .left, c .if2 .left, subterms-most (p1 .before .args .kind)) in
+    (owed-more _ _ _ 2 e (λ z. omega arith), pushed-two _ _ _ e)
 
 pub owe-spec : {M : Type 1} → statement M
 owe-spec =

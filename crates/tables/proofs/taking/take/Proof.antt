@@ -10,25 +10,41 @@ enum-known-frame : tie.Need-enum-known-frame
 enum-known-frame c = search needs
 
 element-write-kinds : tie.Need-element-write-kinds
-element-write-kinds c = term-room-is _ _ (c .before .before .before .pre) _ _ (c .before .frame .given .1) .terms-fit
+element-write-kinds c =
+    let p = c .before in
+    let p1 = p .before .before in
+    term-room-is _ _ (p1 .pre) _ _ (p .frame .given .1) .terms-fit
 
 mul-payloads : tie.Need-mul-payloads
 mul-payloads c = search needs
 
 element-write-payloads : tie.Need-element-write-payloads
-element-write-payloads c = term-room-is _ _ (c .before .before .before .pre) _ _ (c .before .frame .given .1) .terms-fit
+element-write-payloads c =
+    let p = c .before in
+    let p1 = p .before .before in
+    term-room-is _ _ (p1 .pre) _ _ (p .frame .given .1) .terms-fit
 
 sub-owners : tie.Need-sub-owners
 sub-owners c = term-room-is _ _ (c .before .before .before .pre) _ _ (c .before .frame .given .1) .begun
 
 cast-owners : tie.Need-cast-owners
-cast-owners c = omega (arith, term-room-is _ _ (c .before .before .before .pre) _ _ (c .before .frame .given .1))
+cast-owners c =
+    let p = c .before in
+    let p1 = p .before .before in
+    omega (arith, term-room-is _ _ (p1 .pre) _ _ (p .frame .given .1))
 
 element-write-owners : tie.Need-element-write-owners
-element-write-owners c = term-room-is _ _ (c .before .before .before .pre) _ _ (c .before .frame .given .1) .terms-fit
+element-write-owners c =
+    let p = c .before in
+    let p1 = p .before .before in
+    term-room-is _ _ (p1 .pre) _ _ (p .frame .given .1) .terms-fit
 
 owe-requires : tie.Need-owe-requires
-owe-requires c κs = let r = term-room-is _ _ (c .before .before .before .before .pre) _ _ (c .before .before .frame .given .1) in (r .wanted, r .terms-fit, r .depth-fits, r .due-fits)
+owe-requires c κs =
+    let p = c .before .before in
+    let p1 = p .before .before in
+    let r = term-room-is _ _ (p1 .pre) _ _ (p .frame .given .1) in
+    (r .wanted, r .terms-fit, r .depth-fits, r .due-fits)
 
 enum-told : tie.Need-enum-told
 enum-told c = search needs
@@ -56,7 +72,9 @@ enum-told-4 c = search needs
 
 returns : tie.Need-returns
 unfolding seen-then waiting-then roots-then column-then
-returns c = rw (c .before .before .before .frame .given .1) (c .owe .ensures .0, (c .owe .ensures .1, (refl, (refl, (refl, refl)))))
+returns c =
+    let p = c .before .before .before in
+    rw (p .frame .given .1) (c .owe .ensures .0, (c .owe .ensures .1, (refl, (refl, (refl, refl)))))
 
 returns-2 : tie.Need-returns-2
 unfolding seen-then waiting-then roots-then column-then
