@@ -1,0 +1,1 @@
+// The report's rules, plain and tracking: definitions and laws alone.
