@@ -1,1 +1,2 @@
--- Laws of the report's rules.
+-- Laws of the report's rules: `Cases`, the runs of document 01 played by computation.
+pub mod Cases
