@@ -8,13 +8,19 @@ use mathlib.Core.Option.{Option, none, some}
 use lib.ListN.{length, getElem?}
 use lib.Dec.{eqb}
 use Rattle.lines.specs.Line.{choose}
-use Rattle.terms.specs.Term.{call, SKIP, STOP, internal, external, sequence, parallel, Term, leaf, prefix, binary}
-use Rattle.report.specs.Process.{Event, τ, ✓, visible, one, two, three, four, Address, joined, untouched, right-side, cells}
-use Rattle.report.specs.Track.{Label, Pair, labelled, prefixed, first-eval, around, each-with, meet, jointly, carried, started, leads, parents, ended}
+use Rattle.terms.specs.Term.{call, SKIP, STOP, internal, external, sequence, parallel, Term, leaf, prefix}
+use Rattle.terms.specs.Term.{binary}
+use Rattle.report.specs.Process.{Event, τ, ✓, visible, one, two, three, four, Address, joined}
+use Rattle.report.specs.Process.{untouched, right-side, cells}
+use Rattle.report.specs.Track.{Label, Pair, labelled, prefixed, first-eval, around, each-with, meet}
+use Rattle.report.specs.Track.{jointly, carried, started, leads, parents, ended}
 use Rattle.report.specs.Tracking.{member}
-use Rattle.report.specs.Step.{one-side, by-side, same, both-sides, with-right, in-sequence, by-left, at-Ω, then, step}
-use Rattle.report.specs.Run.{State, start, after, over-room, Answer, accepted, refused, within-room, whole, answered, answer}
-use Rattle.report.specs.Offers.{leaf-offers, offers-✓, offers-τ, offers-event, offers-some, Status, live, stuck, status}
+use Rattle.report.specs.Step.{one-side, by-side, same, both-sides, with-right, in-sequence, by-left}
+use Rattle.report.specs.Step.{at-Ω, then, step}
+use Rattle.report.specs.Run.{State, start, after, over-room, Answer, accepted, refused, within-room}
+use Rattle.report.specs.Run.{whole, answered, answer}
+use Rattle.report.specs.Offers.{leaf-offers, offers-✓, offers-τ, offers-event, offers-some, Status}
+use Rattle.report.specs.Offers.{live, stuck, status}
 use Rattle.report.specs.Offers as Offers
 
 -- a label of a reference

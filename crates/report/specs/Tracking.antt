@@ -8,8 +8,11 @@ use mathlib.Core.Option.{Option, none, some}
 use lib.Dec.{eqb}
 use Rattle.terms.specs.Term.{call, SKIP, STOP, Term}
 use Rattle.places.specs.Place.{Place}
-use Rattle.report.specs.Process.{Event, τ, ✓, visible, one, two, three, four, Address, choice, together, Process, leaf, prefix, internal, split, sequence, Ω, ⊥′, rhs}
-use Rattle.report.specs.Track.{At, Outcome, labelled, prefixed, first-eval, inside, around, right-eval, right-inside, jointly, carried, started, ended}
+use Rattle.report.specs.Process.{Event, τ, ✓, visible, one, two, three, four, Address, choice}
+use Rattle.report.specs.Process.{together, Process, leaf, prefix, internal, split, sequence, Ω, ⊥′}
+use Rattle.report.specs.Process.{rhs}
+use Rattle.report.specs.Track.{At, Outcome, labelled, prefixed, first-eval, inside, around}
+use Rattle.report.specs.Track.{right-eval, right-inside, jointly, carried, started, ended}
 
 -- event k is bit k of a set
 unfoldable pub member : ℕ → ℕ → Bool
