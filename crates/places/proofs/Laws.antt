@@ -1,6 +1,6 @@
--- What a caller may rely on. By induction over the sides of terms each literal of a term has exactly one place, of at most 64
--- digits, and following columns which hold a term gives its paths; so the door `place` answers with the places of a table's
--- literals, and its promise leaves no choice. Assumes nothing.
+-- What a caller may rely on. By induction over the sides of terms each literal of a term has exactly one
+-- place, of at most 64 digits, and following columns which hold a term gives its paths; so the door `place`
+-- answers with the places of a table's literals, and its promise leaves no choice. Assumes nothing.
 use Prim.Native.Nat.{ℕ, zero, suc, _+_, _≤_, _<_}
 use mathlib.Core.Path.{_≡_, refl, sym, ap, _∙_}
 use mathlib.Core.Bool.{Bool, true, false}

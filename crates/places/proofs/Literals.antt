@@ -1,4 +1,5 @@
--- The path of each kind of literal, from where the way to its term ends, and the answer that stands for it. Assumes nothing.
+-- The path of each kind of literal, from where the way to its term ends, and the answer that stands for it.
+-- Assumes nothing.
 use Prim.Native.Nat.{ℕ, zero, suc, _+_, _-_, _≤_}
 use mathlib.Core.Path.{_≡_, refl, ap, _∙_}
 use mathlib.Core.Bool.{Bool, true, false}

@@ -1,5 +1,5 @@
--- Following terms downward, a step at a time: what a column has at a number, which subterm comes next, and what each end of the
--- way says of the path and of the digits written. Assumes nothing.
+-- Following terms downward, a step at a time: what a column has at a number, which subterm comes next, and
+-- what each end of the way says of the path and of the digits written. Assumes nothing.
 use Prim.Native.Nat.{ℕ, zero, suc, _+_, _≤_, _<_}
 use mathlib.Core.Path.{_≡_, refl, sym, ap, _∙_}
 use mathlib.Core.Bool.{Bool, true, false}

@@ -1,5 +1,5 @@
--- Document 01's runs A to H and K, played by computation: events, status, and how many nodes, saved arcs, arcs made and meetings the
--- track has, or the refusal. One statement for all. Assumes nothing.
+-- Document 01's runs A to H and K, played by computation: events, status, and how many nodes, saved arcs,
+-- arcs made and meetings the track has, or the refusal. One statement for all. Assumes nothing.
 use Prim.Native.Nat.{ℕ, zero, suc, _+_}
 use mathlib.Core.Path.{_≡_, refl}
 use mathlib.Core.Bool.{Bool, true, false, _&&_, _||_}
@@ -74,16 +74,20 @@ stopping k = prefix k (leaf STOP)
 
 pub runs : List Told
 runs =
-    run 1 (binary (parallel 1) (prefix 0 (leaf SKIP)) (stopping 0) ∷ []) ((three ∷ []) ∷ (one ∷ []) ∷ (two ∷ []) ∷ [])
-    ∷ run 1 (binary (parallel 1) (prefix 0 (leaf SKIP)) (stopping 0) ∷ []) ((three ∷ []) ∷ (two ∷ []) ∷ (one ∷ []) ∷ [])
+    run 1 (binary (parallel 1) (prefix 0 (leaf SKIP)) (stopping 0) ∷ [])
+    ((three ∷ []) ∷ (one ∷ []) ∷ (two ∷ []) ∷ [])
+    ∷ run 1 (binary (parallel 1) (prefix 0 (leaf SKIP)) (stopping 0) ∷ [])
+    ((three ∷ []) ∷ (two ∷ []) ∷ (one ∷ []) ∷ [])
     ∷ run 2 (binary (parallel 0) (stopping 0) (stopping 1) ∷ []) ((one ∷ []) ∷ (two ∷ []) ∷ [])
     ∷ run 2 (binary (parallel 0) (stopping 0) (stopping 1) ∷ []) ((two ∷ []) ∷ (one ∷ []) ∷ [])
     ∷ run 0 (binary (parallel 0) (leaf SKIP) (leaf SKIP) ∷ []) ((one ∷ []) ∷ (two ∷ []) ∷ (four ∷ []) ∷ [])
     ∷ run 0 (binary sequence (binary (parallel 0) (leaf SKIP) (leaf SKIP)) (leaf STOP) ∷ [])
     ((one ∷ []) ∷ (two ∷ []) ∷ (four ∷ []) ∷ [])
     ∷ run 1 (binary external (leaf SKIP) (stopping 0) ∷ []) ((one ∷ []) ∷ [])
-    ∷ run 2 (binary external (leaf (call 1)) (stopping 0) ∷ prefix 1 (leaf SKIP) ∷ []) ((one ∷ []) ∷ (two ∷ []) ∷ [])
-    ∷ run 1 (binary (parallel 1) (binary (parallel 1) (stopping 0) (stopping 0)) (stopping 0) ∷ []) ((three ∷ three ∷ []) ∷ [])
+    ∷ run 2 (binary external (leaf (call 1)) (stopping 0) ∷ prefix 1 (leaf SKIP) ∷ [])
+    ((one ∷ []) ∷ (two ∷ []) ∷ [])
+    ∷ run 1 (binary (parallel 1) (binary (parallel 1) (stopping 0) (stopping 0)) (stopping 0) ∷ [])
+    ((three ∷ three ∷ []) ∷ [])
     ∷ run 2 (binary (parallel 1) (stopping 0) (stopping 1) ∷ []) ((one ∷ []) ∷ [])
     ∷ run 2 (binary (parallel 1) (stopping 0) (stopping 1) ∷ []) ((three ∷ []) ∷ [])
     ∷ run 2 (binary (parallel 1) (stopping 0) (stopping 1) ∷ []) ((two ∷ []) ∷ [])
@@ -111,5 +115,8 @@ outcomes =
 
 pub cases-played : runs ≡ outcomes
 unfolding
-    labels-it saved tell play run stopping runs told outcomes joined untouched right-side cells labelled prefixed first-eval around each-with meet jointly carried started leads parents ended member one-side by-side same both-sides with-right in-sequence by-left at-Ω then step after over-room within-room whole answered answer leaf-offers offers-✓ offers-τ offers-event offers-some status
+    labels-it saved tell play run stopping runs told outcomes joined untouched right-side cells labelled
+    prefixed first-eval around each-with meet jointly carried started leads parents ended member
+    one-side by-side same both-sides with-right in-sequence by-left at-Ω then step after over-room
+    within-room whole answered answer leaf-offers offers-✓ offers-τ offers-event offers-some status
 cases-played = refl

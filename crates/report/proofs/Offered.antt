@@ -1,5 +1,5 @@
--- Offers are the events of the derivations. Each rule shows an event that is offered, and each offer has a rule, wherever the process
--- stands: by the derivation one way, by the process the other. Assumes nothing.
+-- Offers are the events of the derivations. Each rule shows an event that is offered, and each offer has a
+-- rule, wherever the process stands: by the derivation one way, by the process the other. Assumes nothing.
 use Prim.Native.Nat.{ℕ}
 use mathlib.Core.Path.{_≡_, refl, sym, ap, _∙_}
 use mathlib.Core.Bool.{Bool, true, false, _&&_, _||_}
@@ -47,13 +47,15 @@ and-each true b e = (refl, e)
 and-each false b e = let z : _≡_ {A = ℕ} 0 1 = cc in absurd (omega arith)
 
 -- what an external choice offers is what either side offers
-choice-left : (w : Place) (m n : Option ℕ) (P Q : Process) (e : Event) → offers P e ≡ true → offers (split w choice m n P Q) e ≡ true
+choice-left : (w : Place) (m n : Option ℕ) (P Q : Process) (e : Event) → offers P e ≡ true
+    → offers (split w choice m n P Q) e ≡ true
 unfolding offers offers-τ offers-✓ offers-event
 choice-left w m n P Q τ h = or-left (offers-τ P) (offers-τ Q) h
 choice-left w m n P Q ✓ h = or-left (offers-✓ P) (offers-✓ Q) h
 choice-left w m n P Q (visible k) h = or-left (offers-event k P) (offers-event k Q) h
 
-choice-right : (w : Place) (m n : Option ℕ) (P Q : Process) (e : Event) → offers Q e ≡ true → offers (split w choice m n P Q) e ≡ true
+choice-right : (w : Place) (m n : Option ℕ) (P Q : Process) (e : Event) → offers Q e ≡ true
+    → offers (split w choice m n P Q) e ≡ true
 unfolding offers offers-τ offers-✓ offers-event
 choice-right w m n P Q τ h = or-right (offers-τ P) (offers-τ Q) h
 choice-right w m n P Q ✓ h = or-right (offers-✓ P) (offers-✓ Q) h
@@ -78,7 +80,8 @@ module _ (w : Place) (x : ℕ) (m n : Option ℕ) (P Q : Process) where
   shown-right hides-✓ h = or-right (silent P) (silent Q) (or-right (offers-τ Q) (offers-✓ Q) h)
 
 -- a sequence offers what its left does, but τ for ✓
-stays : (w : Place) (b : Bool) (P Q : Process) (e : Event) → (e ≡ ✓ → ⊥) → offers P e ≡ true → offers (sequence w b P Q) e ≡ true
+stays : (w : Place) (b : Bool) (P Q : Process) (e : Event) → (e ≡ ✓ → ⊥) → offers P e ≡ true
+    → offers (sequence w b P Q) e ≡ true
 unfolding offers offers-τ offers-event
 stays w b P Q τ n h = or-left (offers-τ P) (offers-✓ P) h
 stays w b P Q ✓ n h = absurd (n refl)
@@ -90,12 +93,14 @@ unfolding offers offers-τ
 starts w b P Q h = or-right (offers-τ P) (offers-✓ P) h
 
 -- both sides offer an event of the set
-met : (w : Place) (x k : ℕ) (m n : Option ℕ) (P Q : Process) → member k x ≡ true → offers P (visible k) ≡ true → offers Q (visible k) ≡ true
-  → offers (split w (together x) m n P Q) (visible k) ≡ true
+met : (w : Place) (x k : ℕ) (m n : Option ℕ) (P Q : Process) → member k x ≡ true
+    → offers P (visible k) ≡ true → offers Q (visible k) ≡ true
+    → offers (split w (together x) m n P Q) (visible k) ≡ true
 unfolding offers offers-event
 met w x k m n P Q i h h′ = rw i (and-both (offers-event k P) (offers-event k Q) h h′)
 
-over : (w : Place) (x : ℕ) (m n : Option ℕ) (P Q : Process) → P ≡ Ω → Q ≡ Ω → offers (split w (together x) m n P Q) ✓ ≡ true
+over : (w : Place) (x : ℕ) (m n : Option ℕ) (P Q : Process) → P ≡ Ω → Q ≡ Ω
+    → offers (split w (together x) m n P Q) ✓ ≡ true
 unfolding offers offers-✓ at-Ω
 over w x m n P Q p q = rw (p, q)
 
@@ -156,7 +161,8 @@ by : (P : Process) {e f : Event} → e ≡ f → offers P e ≡ true → offers 
 by P q h = rw q at h
 
 module _ (ts : List Term) where
-  pub derived-offered : {a : Address} {P : Process} {s : At} {r : Outcome} → Tracks ts a P s r → offers P (r .event) ≡ true
+  pub derived-offered : {a : Address} {P : Process} {s : At} {r : Outcome} → Tracks ts a P s r
+      → offers P (r .event) ≡ true
   unfolding labelled prefixed around jointly carried started ended
   derived-offered process-call = call-offers _ _
   derived-offered prefixing = prefix-offers _ _ _
@@ -233,7 +239,8 @@ module _ (ts : List Term) where
           let shown : Shows x (d .1 .event) f = rw (d .3) v in
           (two ∷ d .0, _, synchronized-parallelism-2 (d .2) shown, refl)
 
-      both : (k : ℕ) → member k x ≡ true → offers P (visible k) ≡ true → offers Q (visible k) ≡ true → Offered (split w (together x) m n P Q) s (visible k)
+      both : (k : ℕ) → member k x ≡ true → offers P (visible k) ≡ true → offers Q (visible k) ≡ true
+          → Offered (split w (together x) m n P Q) s (visible k)
       unfolding jointly
       both k i h h′ =
           let d = left (visible k) h (inside (first-eval m n w s) s) in
@@ -253,8 +260,8 @@ module _ (ts : List Term) where
       silent-2 h = ⊎-elim (side-2 τ τ hides-τ) (side-2 ✓ τ hides-✓) (or-either (offers-τ Q) (offers-✓ Q) h)
 
       by-set : (k : ℕ) (b : Bool) → member k x ≡ b
-        → choose b (offers-event k P && offers-event k Q) (offers-event k P || offers-event k Q) ≡ true
-        → Offered (split w (together x) m n P Q) s (visible k)
+          → choose b (offers-event k P && offers-event k Q) (offers-event k P || offers-event k Q) ≡ true
+          → Offered (split w (together x) m n P Q) s (visible k)
       unfolding offers
       by-set k true i h =
           let c = and-each (offers-event k P) (offers-event k Q) h in
@@ -263,7 +270,8 @@ module _ (ts : List Term) where
           ⊎-elim (side-1 (visible k) (visible k) (passes i)) (side-2 (visible k) (visible k) (passes i))
           (or-either (offers-event k P) (offers-event k Q) h)
 
-      parallel-gives : (e : Event) → offers (split w (together x) m n P Q) e ≡ true → Offered (split w (together x) m n P Q) s e
+      parallel-gives : (e : Event) → offers (split w (together x) m n P Q) e ≡ true
+          → Offered (split w (together x) m n P Q) s e
       unfolding offers offers-τ offers-✓ offers-event silent
       parallel-gives τ h = ⊎-elim silent-1 silent-2 (or-either (silent P) (silent Q) h)
       parallel-gives ✓ h = let c = and-each (at-Ω P) (at-Ω Q) h in ends (c .0) (c .1)
@@ -278,6 +286,7 @@ module _ (ts : List Term) where
       goes-on h =
           let d = left τ h s in
           (d .0, _, sequential-composition-1 (d .2) (λ q. τ-no-✓ (sym (d .3) ∙ q)), d .3)
+
       starts-right : offers P ✓ ≡ true → Offered (sequence w b P Q) s τ
       starts-right h = let d = left ✓ h s in (d .0, _, sequential-composition-2 (d .2) (d .3), refl)
   sequence-gives w b P Q left ✓ h s = let z : _≡_ {A = ℕ} 0 1 = cc in absurd (omega arith)

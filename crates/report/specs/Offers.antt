@@ -1,5 +1,6 @@
--- Offers and status. Document 01, 'Steps and addresses': the events that a control has derivations for, by following the term
--- downward; ended at Ω, stuck when no address has a derivation and the control is not Ω, else live.
+-- Offers and status. Document 01, 'Steps and addresses': the events that a control has derivations for, by
+-- following the term downward; ended at Ω, stuck when no address has a derivation and the control is not Ω,
+-- else live.
 use Prim.Native.Nat.{ℕ, zero, suc}
 use mathlib.Core.Bool.{Bool, true, false, _&&_, _||_}
 use lib.Dec.{eqb}

@@ -1,5 +1,5 @@
--- Fig. 3 of the report: the plain rules, one constructor a rule, in the report's order; and stripping, which removes references and
--- places and reads ⊥ as STOP.
+-- Fig. 3 of the report: the plain rules, one constructor a rule, in the report's order; and stripping, which
+-- removes references and places and reads ⊥ as STOP.
 use Prim.Native.Nat.{ℕ}
 use mathlib.Core.Path.{_≡_}
 use mathlib.Core.Bool.{Bool, true, false}
@@ -50,17 +50,23 @@ pub data Steps (ts : List Term) : Plain → Event → Plain → Type 0 where
   skip : Steps ts (leaf SKIP) ✓ ended
   internal-choice-1 : {P Q : Plain} → Steps ts (binary Term.internal P Q) τ P
   internal-choice-2 : {P Q : Plain} → Steps ts (binary Term.internal P Q) τ Q
-  external-choice-1 : {P Q P′ : Plain} → Steps ts P τ P′ → Steps ts (binary external P Q) τ (binary external P′ Q)
-  external-choice-2 : {P Q Q′ : Plain} → Steps ts Q τ Q′ → Steps ts (binary external P Q) τ (binary external P Q′)
-  external-choice-3 : {P Q P′ : Plain} {e : Event} → Steps ts P e P′ → Visible e → Steps ts (binary external P Q) e P′
-  external-choice-4 : {P Q Q′ : Plain} {e : Event} → Steps ts Q e Q′ → Visible e → Steps ts (binary external P Q) e Q′
+  external-choice-1 : {P Q P′ : Plain}
+      → Steps ts P τ P′ → Steps ts (binary external P Q) τ (binary external P′ Q)
+  external-choice-2 : {P Q Q′ : Plain}
+      → Steps ts Q τ Q′ → Steps ts (binary external P Q) τ (binary external P Q′)
+  external-choice-3 : {P Q P′ : Plain} {e : Event}
+      → Steps ts P e P′ → Visible e → Steps ts (binary external P Q) e P′
+  external-choice-4 : {P Q Q′ : Plain} {e : Event}
+      → Steps ts Q e Q′ → Visible e → Steps ts (binary external P Q) e Q′
   sequential-composition-1 : {P Q P′ : Plain} {e : Event} → Steps ts P e P′ → (e ≡ ✓ → ⊥)
       → Steps ts (binary Term.sequence P Q) e (binary Term.sequence P′ Q)
-  sequential-composition-2 : {P Q P′ : Plain} → Steps ts P ✓ P′ → P′ ≡ ended → Steps ts (binary Term.sequence P Q) τ Q
+  sequential-composition-2 : {P Q P′ : Plain} → Steps ts P ✓ P′ → P′ ≡ ended
+      → Steps ts (binary Term.sequence P Q) τ Q
   synchronized-parallelism-1 : {x : ℕ} {P Q P′ : Plain} {e e′ : Event} → Steps ts P e′ P′ → Shows x e′ e
       → Steps ts (binary (parallel x) P Q) e (binary (parallel x) P′ Q)
   synchronized-parallelism-2 : {x : ℕ} {P Q Q′ : Plain} {e e′ : Event} → Steps ts Q e′ Q′ → Shows x e′ e
       → Steps ts (binary (parallel x) P Q) e (binary (parallel x) P Q′)
   synchronized-parallelism-3 : {x a : ℕ} {P Q P′ Q′ : Plain} → Steps ts P (visible a) P′ → Steps ts Q (visible a) Q′
       → member a x ≡ true → Steps ts (binary (parallel x) P Q) (visible a) (binary (parallel x) P′ Q′)
-  synchronized-parallelism-4 : {x : ℕ} {P Q : Plain} → P ≡ ended → Q ≡ ended → Steps ts (binary (parallel x) P Q) ✓ ended
+  synchronized-parallelism-4 : {x : ℕ} {P Q : Plain} → P ≡ ended → Q ≡ ended
+      → Steps ts (binary (parallel x) P Q) ✓ ended

@@ -1,5 +1,5 @@
--- Processes under tracking: Fig. 2 of the report for their forms, Definition 1 for the place that each literal carries, and Fig. 7
--- for what tracking adds. Document 01, 'Steps and addresses' and 'Room'.
+-- Processes under tracking: Fig. 2 of the report for their forms, Definition 1 for the place that each
+-- literal carries, and Fig. 7 for what tracking adds. Document 01, 'Steps and addresses' and 'Room'.
 use Prim.Native.Nat.{ℕ, zero, suc, _+_}
 use mathlib.Core.Bool.{Bool, true, false}
 use mathlib.Core.List.{List, [], _∷_, _++_}
@@ -30,8 +30,9 @@ pub data Split : Type 0 where
   choice : Split
   together : ℕ → Split
 
--- a process, with the place of each literal. A split carries the reference of each side, none where the side has not stepped yet
--- (the report's •); a sequence whether a step has entered it. Ω has terminated, and ⊥ is deadlocked
+-- a process, with the place of each literal. A split carries the reference of each side, none where the side
+-- has not stepped yet (the report's •); a sequence whether a step has entered it. Ω has terminated, and ⊥ is
+-- deadlocked
 pub data Process : Type 0 where
   leaf : Place → Leaf → Process
   prefix : Place → ℕ → Process → Process
@@ -70,8 +71,8 @@ rhs ts n = right-side n (getElem? ts n)
 abbrev pub main : Process
 main = leaf (record { definition = 0; path = left-path }) (call 0)
 
--- control cells: an untouched term, Ω or ⊥ is one; an external choice or parallel a step has entered is one plus both sides; an
--- entered sequence one plus its left
+-- control cells: an untouched term, Ω or ⊥ is one; an external choice or parallel a step has entered is one
+-- plus both sides; an entered sequence one plus its left
 unfoldable pub cells : Process → ℕ
 cells (leaf w l) = 1
 cells (prefix w e P) = 1

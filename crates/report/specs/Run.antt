@@ -1,5 +1,5 @@
--- A run: where it starts, what an address makes of it, and the rooms. Document 01, 'Steps and addresses', 'Room' and 'Numbers of
--- refusal', 7 to 11.
+-- A run: where it starts, what an address makes of it, and the rooms. Document 01, 'Steps and addresses',
+-- 'Room' and 'Numbers of refusal', 7 to 11.
 use Prim.Native.Nat.{ℕ, zero, suc}
 use mathlib.Core.List.{List, [], _∷_, _++_}
 use mathlib.Core.Option.{Option, none, some}
@@ -11,7 +11,8 @@ use Rattle.report.specs.Process.{Event, Address, Process, main, cells}
 use Rattle.report.specs.Track.{Label, Pair, At, Outcome}
 use Rattle.report.specs.Step.{Stepped, step}
 
--- the control with its current reference, the next fresh one, and the track: labels, arcs and meetings in the order made
+-- the control with its current reference, the next fresh one, and the track: labels, arcs and meetings in the
+-- order made
 pub record State : Type 0 where
   pub process : Process
   pub reference : ℕ

@@ -1,5 +1,6 @@
--- The step of an address, worked out: from a process and where it stands, by the digits that it needs of an address, the outcome and
--- the digits that are left. `proofs/Derived.antt` shows that it is the derivation so named.
+-- The step of an address, worked out: from a process and where it stands, by the digits that it needs of an
+-- address, the outcome and the digits that are left. `proofs/Derived.antt` shows that it is the derivation so
+-- named.
 use Prim.Native.Nat.{ℕ}
 use mathlib.Core.Bool.{Bool, true, false, _&&_}
 use mathlib.Core.List.{List, [], _∷_}
@@ -22,9 +23,10 @@ pub record Stepped : Type 0 where
 abbrev pub stepped : Outcome → Address → Option Stepped
 stepped r a = some (record { outcome = r; unused = a })
 
--- what one side's step makes of a split: a choice stays on τ, and is dropped otherwise; a parallel shows a visible event outside its
--- set, and τ for τ or ✓. `put` puts the side back
-unfoldable pub one-side : Split → Event → Entered → (Option ℕ → Process → Process) → ℕ → Outcome → Address → Option Stepped
+-- what one side's step makes of a split: a choice stays on τ, and is dropped otherwise; a parallel shows a
+-- visible event outside its set, and τ for τ or ✓. `put` puts the side back
+unfoldable pub one-side :
+    Split → Event → Entered → (Option ℕ → Process → Process) → ℕ → Outcome → Address → Option Stepped
 one-side choice τ i put m r a = stepped (around i r τ (put (some (r .reference)) (r .process)) m) a
 one-side choice ✓ i put m r a = stepped (around i r ✓ (r .process) (r .reference)) a
 one-side choice (visible e) i put m r a = stepped (around i r (visible e) (r .process) (r .reference)) a

@@ -27,8 +27,8 @@ pub record At : Type 0 where
   pub fresh : ℕ
   pub arcs : List Pair
 
--- what a step gives: the event, the next process with its reference, the next fresh reference; the labels, arcs and meetings that
--- it adds, in the order made; and the event nodes of the step, the report's Δ
+-- what a step gives: the event, the next process with its reference, the next fresh reference; the labels,
+-- arcs and meetings that it adds, in the order made; and the event nodes of the step, the report's Δ
 pub record Outcome : Type 0 where
   pub event : Event
   pub process : Process
@@ -65,8 +65,8 @@ prefixed e P w s = record {
   met = s .reference ∷ [];
 }
 
--- FirstEval: the first time that a side steps it gets an arc and a fresh reference; the operator's node is labelled by the first of
--- the two. `own` is this side's reference, `other` the other's
+-- FirstEval: the first time that a side steps it gets an arc and a fresh reference; the operator's node is
+-- labelled by the first of the two. `own` is this side's reference, `other` the other's
 pub record Entered : Type 0 where
   pub reference : ℕ
   pub fresh : ℕ
@@ -125,7 +125,8 @@ unfoldable pub meet : List ℕ → List ℕ → List Pair
 meet [] ys = []
 meet (x ∷ xs) ys = each-with x ys ++ meet xs ys
 
--- both sides' step of one event: the left's part first, and each event node of the left's meets each of the right's
+-- both sides' step of one event: the left's part first, and each event node of the left's meets each of the
+-- right's
 unfoldable pub jointly : Entered → Outcome → Entered → Outcome → ℕ → Process → ℕ → Outcome
 jointly i l j r e P m = record {
   event = visible e;
@@ -151,7 +152,8 @@ carried r P = record {
   met = r .met;
 }
 
--- a sequence starts its right: the left's last reference is labelled with the sequence's place and gets an arc to a fresh one
+-- a sequence starts its right: the left's last reference is labelled with the sequence's place and gets an
+-- arc to a fresh one
 unfoldable pub started : Outcome → Process → Place → Outcome
 started r Q w = record {
   event = τ;

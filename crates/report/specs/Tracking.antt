@@ -1,5 +1,6 @@
--- Fig. 7 of the report: the tracking rules as derivations, each named by an address as document 01 has it. One constructor a rule,
--- in the report's order, with its premises and side conditions. The derivations mention no step function.
+-- Fig. 7 of the report: the tracking rules as derivations, each named by an address as document 01 has it.
+-- One constructor a rule, in the report's order, with its premises and side conditions. The derivations
+-- mention no step function.
 use Prim.Native.Nat.{ℕ, _/_, _%_, _^_}
 use mathlib.Core.Path.{_≡_}
 use mathlib.Core.Bool.{Bool, true, false}
@@ -35,8 +36,10 @@ pub data Tracks (ts : List Term) : Address → Process → At → Outcome → Ty
   prefixing : {a : ℕ} {w : Place} {P : Process} {s : At} → Tracks ts [] (prefix w a P) s (prefixed a P w s)
   skip : {w : Place} {s : At} → Tracks ts [] (leaf w SKIP) s (labelled ✓ Ω w s)
   stop : {w : Place} {s : At} → Tracks ts [] (leaf w STOP) s (labelled τ ⊥′ w s)
-  internal-choice-1 : {w : Place} {P Q : Process} {s : At} → Tracks ts (one ∷ []) (internal w P Q) s (labelled τ P w s)
-  internal-choice-2 : {w : Place} {P Q : Process} {s : At} → Tracks ts (two ∷ []) (internal w P Q) s (labelled τ Q w s)
+  internal-choice-1 : {w : Place} {P Q : Process} {s : At}
+      → Tracks ts (one ∷ []) (internal w P Q) s (labelled τ P w s)
+  internal-choice-2 : {w : Place} {P Q : Process} {s : At}
+      → Tracks ts (two ∷ []) (internal w P Q) s (labelled τ Q w s)
   external-choice-1 : {a : Address} {w : Place} {n₁ n₂ : Option ℕ} {P Q : Process} {s : At} {r : Outcome}
       → Tracks ts a P (inside (first-eval n₁ n₂ w s) s) r → r .event ≡ τ
       → Tracks ts (one ∷ a) (split w choice n₁ n₂ P Q) s
@@ -59,15 +62,18 @@ pub data Tracks (ts : List Term) : Address → Process → At → Outcome → Ty
   sequential-composition-2 : {a : Address} {w : Place} {b : Bool} {P Q : Process} {s : At} {r : Outcome}
       → Tracks ts a P s r → r .event ≡ ✓
       → Tracks ts a (sequence w b P Q) s (started r Q w)
-  synchronized-parallelism-1 : {a : Address} {w : Place} {x : ℕ} {n₁ n₂ : Option ℕ} {P Q : Process} {s : At} {r : Outcome} {e : Event}
+  synchronized-parallelism-1 : {a : Address} {w : Place} {x : ℕ} {n₁ n₂ : Option ℕ} {P Q : Process} {s : At}
+      {r : Outcome} {e : Event}
       → Tracks ts a P (inside (first-eval n₁ n₂ w s) s) r → Shows x (r .event) e
       → Tracks ts (one ∷ a) (split w (together x) n₁ n₂ P Q) s
       (around (first-eval n₁ n₂ w s) r e (split w (together x) (some (r .reference)) n₂ (r .process) Q) (s .reference))
-  synchronized-parallelism-2 : {a : Address} {w : Place} {x : ℕ} {n₁ n₂ : Option ℕ} {P Q : Process} {s : At} {r : Outcome} {e : Event}
+  synchronized-parallelism-2 : {a : Address} {w : Place} {x : ℕ} {n₁ n₂ : Option ℕ} {P Q : Process} {s : At}
+      {r : Outcome} {e : Event}
       → Tracks ts a Q (inside (first-eval n₂ n₁ w s) s) r → Shows x (r .event) e
       → Tracks ts (two ∷ a) (split w (together x) n₁ n₂ P Q) s
       (around (first-eval n₂ n₁ w s) r e (split w (together x) n₁ (some (r .reference)) P (r .process)) (s .reference))
-  synchronized-parallelism-3 : {a b c : Address} {w : Place} {x : ℕ} {n₁ n₂ : Option ℕ} {P Q : Process} {s : At} {l r : Outcome} {e : ℕ}
+  synchronized-parallelism-3 : {a b c : Address} {w : Place} {x : ℕ} {n₁ n₂ : Option ℕ} {P Q : Process} {s : At}
+      {l r : Outcome} {e : ℕ}
       → Tracks ts a P (inside (first-eval n₁ n₂ w s) s) l
       → Tracks ts b Q (right-inside n₁ n₂ w s l) r
       → l .event ≡ visible e → r .event ≡ visible e → member e x ≡ true → c ≡ a ++ b

@@ -1,6 +1,6 @@
--- The answer at a cursor by what the line finder and the judging say there: no line, a refused line, or a line that
--- asks for a step. A found line is the first of the script's lines, and its characters stand for the frame that is
--- judged. Assumes nothing.
+-- The answer at a cursor by what the line finder and the judging say there: no line, a refused line, or a
+-- line that asks for a step. A found line is the first of the script's lines, and its characters stand for
+-- the frame that is judged. Assumes nothing.
 use Prim.Native.Nat.{ℕ, _≤_, _-_, _+_, _*_, _/_}
 use mathlib.Core.Path.{_≡_, refl, sym, ap, _∙_}
 use mathlib.Core.Bool.{Bool, true, false, _&&_}

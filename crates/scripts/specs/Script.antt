@@ -1,4 +1,5 @@
--- Document 01, 'Script': `20 llll digits`: one step, llll digits (0 to 1,024), a byte each, 01 to 04; and its refusals 1, 2 and 3.
+-- Document 01, 'Script': `20 llll digits`: one step, llll digits (0 to 1,024), a byte each, 01 to 04; and its
+-- refusals 1, 2 and 3.
 use Prim.Native.Nat.{ℕ, _+_, _-_}
 use mathlib.Core.Bool.{Bool, true, false, _&&_, not}
 use mathlib.Core.List.{List, [], _∷_}
@@ -46,8 +47,8 @@ unfoldable pub digits-of : Asked → List ℕ
 digits-of (address ds) = ds
 digits-of (refused r) = []
 
--- the answer that stands for what a line asks: how many digits its address has and where the next line begins, or the paper's
--- number of the refusal
+-- the answer that stands for what a line asks: how many digits its address has and where the next line
+-- begins, or the paper's number of the refusal
 unfoldable pub told : ℕ → Asked → Step
 told next (address ds) = Address (length ds) next
 told next (refused r) = Refused r

@@ -1,5 +1,5 @@
--- `scripts::judge` meets its contract: each `return` stands behind the tests that led to it, and a law of `Judged` says
--- what a line that they let through asks for. Assumes nothing.
+-- `scripts::judge` meets its contract: each `return` stands behind the tests that led to it, and a law of
+-- `Judged` says what a line that they let through asks for. Assumes nothing.
 use mathlib.Core.Path.{sym, _∙_}
 use borrow.Author.Needs.{needs}
 use borrow.Author.Tests.{not-true, not-false}

@@ -1,5 +1,6 @@
--- `scripts::next_step` meets its contract: what the finder and the judging ensure is what the laws of `Steps` ask for,
--- and they tell the answer and the digits that it leaves; where it leaves none, nothing is stored. Assumes nothing.
+-- `scripts::next_step` meets its contract: what the finder and the judging ensure is what the laws of `Steps`
+-- ask for, and they tell the answer and the digits that it leaves; where it leaves none, nothing is stored.
+-- Assumes nothing.
 use mathlib.Core.Path.{sym, ap, _∙_}
 use borrow.Author.Needs.{needs}
 use lib.Seq.{sets}
