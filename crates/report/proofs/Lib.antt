@@ -1,3 +1,5 @@
--- Laws of the report's rules: `Cases`, the runs of document 01 played by computation.
+-- Laws of the report's rules: `Offered`, offers are the derivations' events; `Stuck`, what a status says of the
+-- derivations; `Cases`, the runs of document 01 played by computation.
 pub mod Offered
+pub mod Stuck
 pub mod Cases

@@ -26,11 +26,11 @@ use Rattle.report.specs.Tracking.{synchronized-parallelism-4}
 use Rattle.report.specs.Step.{at-Ω}
 use Rattle.report.specs.Offers.{leaf-offers, offers-✓, offers-τ, offers-event, offers}
 
-or-left : (a b : Bool) → a ≡ true → (a || b) ≡ true
+pub or-left : (a b : Bool) → a ≡ true → (a || b) ≡ true
 or-left true b e = refl
 or-left false b e = let z : _≡_ {A = ℕ} 0 1 = cc in absurd (omega arith)
 
-or-right : (a b : Bool) → b ≡ true → (a || b) ≡ true
+pub or-right : (a b : Bool) → b ≡ true → (a || b) ≡ true
 or-right true b e = refl
 or-right false b e = e
 
@@ -38,11 +38,11 @@ and-both : (a b : Bool) → a ≡ true → b ≡ true → (a && b) ≡ true
 and-both true b e f = f
 and-both false b e f = let z : _≡_ {A = ℕ} 0 1 = cc in absurd (omega arith)
 
-or-either : (a b : Bool) → (a || b) ≡ true → (a ≡ true) ⊎ (b ≡ true)
+pub or-either : (a b : Bool) → (a || b) ≡ true → (a ≡ true) ⊎ (b ≡ true)
 or-either true b e = inl refl
 or-either false b e = inr e
 
-and-each : (a b : Bool) → (a && b) ≡ true → (a ≡ true) × (b ≡ true)
+pub and-each : (a b : Bool) → (a && b) ≡ true → (a ≡ true) × (b ≡ true)
 and-each true b e = (refl, e)
 and-each false b e = let z : _≡_ {A = ℕ} 0 1 = cc in absurd (omega arith)
 
@@ -139,7 +139,7 @@ unfolding offers offers-τ offers-✓ offers-event
 ⊥-offers (visible k) = refl
 
 -- the test for Ω
-is-Ω : (P : Process) → at-Ω P ≡ true → P ≡ Ω
+pub is-Ω : (P : Process) → at-Ω P ≡ true → P ≡ Ω
 unfolding at-Ω
 is-Ω (leaf w l) e = let z : _≡_ {A = ℕ} 0 1 = cc in absurd (omega arith)
 is-Ω (prefix w k P) e = let z : _≡_ {A = ℕ} 0 1 = cc in absurd (omega arith)
