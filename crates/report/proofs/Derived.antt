@@ -1,7 +1,7 @@
 -- The step of an address is the derivation that the address names. By induction over derivations a step takes
--- the digits of the address and gives the outcome; by induction over processes the digits that a step takes name
--- a derivation of what it gives. What a side's step makes of its split is one relation, `OneSide`, and which side
--- it is another, `Side`, so that no argument is made twice. Assumes nothing.
+-- the digits of the address and gives the outcome; by induction over processes the digits that a step takes
+-- name a derivation of what it gives. What a side's step makes of its split is one relation, `OneSide`, and
+-- which side it is another, `Side`, so that no argument is made twice. Assumes nothing.
 use Prim.Native.Nat.{ℕ}
 use mathlib.Core.Path.{_≡_, refl, sym, ap, subst, _∙_}
 use mathlib.Core.Bool.{Bool, true, false, _&&_}
@@ -16,7 +16,8 @@ use Rattle.lines.proofs.Digits.{both}
 use Rattle.terms.specs.Term.{call, SKIP, STOP, Term}
 use Rattle.places.specs.Place.{Place}
 use Rattle.report.specs.Process.{Event, τ, ✓, visible, Digit, one, two, three, four, Address}
-use Rattle.report.specs.Process.{Split, choice, together, Process, leaf, prefix, internal, split, sequence, Ω, ⊥′}
+use Rattle.report.specs.Process.{Split, choice, together, Process, leaf, prefix, internal}
+use Rattle.report.specs.Process.{split, sequence, Ω, ⊥′}
 use Rattle.report.specs.Track.{At, Outcome, Entered, first-eval, inside, around, carried, right-inside}
 use Rattle.report.specs.Tracking.{member, Visible, Shows, passes, hides-τ, hides-✓, Tracks}
 use Rattle.report.specs.Tracking.{process-call, prefixing, skip, stop, internal-choice-1, internal-choice-2}
@@ -26,6 +27,7 @@ use Rattle.report.specs.Tracking.{synchronized-parallelism-1, synchroniz
 use Rattle.report.specs.Tracking.{synchronized-parallelism-3, synchronized-parallelism-4}
 use Rattle.report.specs.Step.{Stepped, stepped, one-side, by-side, same, both-sides, with-right}
 use Rattle.report.specs.Step.{in-sequence, by-left, at-Ω, then, step}
+use Rattle.report.proofs.Offered.{is-Ω}
 
 -- what an answer was worked out from, where no answer comes from none
 given : {A B : Type 0} (f : Option A → Option B) → f none ≡ none → (o : Option A) (x : B) → f o ≡ some x
@@ -113,17 +115,6 @@ done-by-both x n (visible a) (visible b) e =
     let same-event = Option·some-injective a n p in
     (ap visible same-event, ap visible (sym (eqb-true a b q) ∙ same-event), rw same-event at g)
 
--- only Ω has terminated
-is-Ω : (P : Process) → at-Ω P ≡ true → P ≡ Ω
-unfolding at-Ω
-is-Ω (leaf w l) e = cc
-is-Ω (prefix w a P) e = cc
-is-Ω (internal w P Q) e = cc
-is-Ω (split w k m n P Q) e = cc
-is-Ω (sequence w b P Q) e = cc
-is-Ω Ω e = refl
-is-Ω ⊥′ e = cc
-
 -- a sequence stays unless its left ends
 sequence-stays : (w : Place) (Q : Process) (r : Outcome) (v : Event) → (v ≡ ✓ → ⊥) → (a : Address)
     → in-sequence v w Q r a ≡ stepped (carried r (sequence w true (r .process) Q)) a
@@ -177,8 +168,8 @@ module _ (ts : List Term) where
     side-rule second d (shows q h) = synchronized-parallelism-2 d (rw (← q) at h)
 
     by-side-derived : {k : Split} {g : Digit} {S : Process} {own other : Option ℕ}
-        {put : Option ℕ → Process → Process} {c : Address} → Side w k n₁ n₂ P Q g S own other put → (o : Option Stepped) (x : Stepped)
-        → by-side k (first-eval own other w s) put (s .reference) o ≡ some x
+        {put : Option ℕ → Process → Process} {c : Address} → Side w k n₁ n₂ P Q g S own other put
+        → (o : Option Stepped) (x : Stepped) → by-side k (first-eval own other w s) put (s .reference) o ≡ some x
         → ((y : Stepped) → o ≡ some y → Named S (inside (first-eval own other w s) s) c y)
         → Named (split w k n₁ n₂ P Q) s (g ∷ c) x
     unfolding by-side
@@ -237,8 +228,8 @@ module _ (ts : List Term) where
   step-derived ⊥′ s c x e = absurd (Option·none-ne-some x e)
 
   -- an address names at most one derivation
-  pub one-derivation : {a : Address} {P : Process} {s : At} {r r′ : Outcome} → Tracks ts a P s r → Tracks ts a P s r′
-      → r ≡ r′
+  pub one-derivation : {a : Address} {P : Process} {s : At} {r r′ : Outcome}
+      → Tracks ts a P s r → Tracks ts a P s r′ → r ≡ r′
   one-derivation d d′ =
       ap (λ x. x .outcome) (Option·some-injective _ _ (sym (derived-step d []) ∙ derived-step d′ []))
 
