@@ -1,1 +1,2 @@
 -- Laws of the report's rules.
+pub mod Stripped
