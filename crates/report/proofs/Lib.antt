@@ -1,7 +1,10 @@
--- Laws of the report's rules: `Offered`, offers are the derivations' events; `Stuck`, what a status says of the
--- derivations; `Cases`, the runs of document 01 played by computation.
+-- Laws of the report's rules: `Derived`, the step of an address is the derivation that it names; `Answered`, when
+-- an address is accepted and which refusal it meets otherwise; `Stripped`, what a step is with tracking stripped;
+-- `Offered`, offers are the derivations' events; `Stuck`, what a status says of the derivations; and `Cases`, the
+-- runs of document 01 played by computation.
 pub mod Derived
 pub mod Answered
+pub mod Stripped
 pub mod Offered
 pub mod Stuck
 pub mod Cases
