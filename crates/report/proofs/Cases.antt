@@ -14,7 +14,7 @@ use Rattle.report.specs.Process.{Event, τ, ✓, visible, one, two, thre
 use Rattle.report.specs.Process.{untouched, right-side, cells}
 use Rattle.report.specs.Track.{Label, Pair, labelled, prefixed, first-eval, around, each-with, meet}
 use Rattle.report.specs.Track.{jointly, carried, started, leads, parents, ended}
-use Rattle.report.specs.Tracking.{member}
+use Rattle.frames.specs.EventSet.{member}
 use Rattle.report.specs.Step.{one-side, by-side, same, both-sides, with-right, in-sequence, by-left}
 use Rattle.report.specs.Step.{at-Ω, then, step}
 use Rattle.report.specs.Run.{State, start, after, over-room, Answer, accepted, refused, within-room}

@@ -19,7 +19,8 @@ use Rattle.report.specs.Process.{Event, τ, ✓, visible, Digit, one, tw
 use Rattle.report.specs.Process.{Split, choice, together, Process, leaf, prefix, internal}
 use Rattle.report.specs.Process.{split, sequence, Ω, ⊥′}
 use Rattle.report.specs.Track.{At, Outcome, Entered, first-eval, inside, around, carried, right-inside}
-use Rattle.report.specs.Tracking.{member, Visible, Shows, passes, hides-τ, hides-✓, Tracks}
+use Rattle.frames.specs.EventSet.{member}
+use Rattle.report.specs.Tracking.{Visible, Shows, passes, hides-τ, hides-✓, Tracks}
 use Rattle.report.specs.Tracking.{process-call, prefixing, skip, stop, internal-choice-1, internal-choice-2}
 use Rattle.report.specs.Tracking.{external-choice-1, external-choice-2, external-choice-3, external-choice-4}
 use Rattle.report.specs.Tracking.{sequential-composition-1, sequential-composition-2}

@@ -16,7 +16,8 @@ use Rattle.report.specs.Process.{Event, τ, ✓, visible, one, two, thre
 use Rattle.report.specs.Process.{together, Process, leaf, prefix, internal, split, sequence, Ω, ⊥′}
 use Rattle.report.specs.Track.{At, Outcome, labelled, prefixed, first-eval, inside, around}
 use Rattle.report.specs.Track.{right-inside, jointly, carried, started, ended}
-use Rattle.report.specs.Tracking.{member, Visible, Shows, passes, hides-τ, hides-✓, Tracks}
+use Rattle.frames.specs.EventSet.{member}
+use Rattle.report.specs.Tracking.{Visible, Shows, passes, hides-τ, hides-✓, Tracks}
 use Rattle.report.specs.Tracking.{process-call, prefixing, skip, stop, internal-choice-1}
 use Rattle.report.specs.Tracking.{internal-choice-2, external-choice-1, external-choice-2}
 use Rattle.report.specs.Tracking.{external-choice-3, external-choice-4, sequential-composition-1}

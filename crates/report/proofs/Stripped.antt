@@ -16,7 +16,8 @@ use Rattle.report.specs.Process.{Split, choice, together, Process, leaf,
 use Rattle.report.specs.Process.{Ω, ⊥′, joined, untouched, right-side, rhs}
 use Rattle.report.specs.Track.{At, Outcome, labelled, prefixed, around, jointly, carried, started}
 use Rattle.report.specs.Track.{ended}
-use Rattle.report.specs.Tracking.{member, Visible, Shows, passes, hides-τ, hides-✓, Tracks}
+use Rattle.frames.specs.EventSet.{member}
+use Rattle.report.specs.Tracking.{Visible, Shows, passes, hides-τ, hides-✓, Tracks}
 use Rattle.report.specs.Tracking.{process-call, prefixing, skip, stop}
 use Rattle.report.specs.Tracking.{internal-choice-1, internal-choice-2}
 use Rattle.report.specs.Tracking.{external-choice-1, external-choice-2}

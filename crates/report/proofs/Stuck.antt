@@ -16,7 +16,8 @@ use Rattle.places.specs.Place.{Place}
 use Rattle.report.specs.Process.{Event, τ, ✓, visible, Address, choice, together, Process}
 use Rattle.report.specs.Process.{leaf, prefix, internal, split, sequence, Ω, ⊥′}
 use Rattle.report.specs.Track.{At, Outcome}
-use Rattle.report.specs.Tracking.{member, Tracks}
+use Rattle.frames.specs.EventSet.{member}
+use Rattle.report.specs.Tracking.{Tracks}
 use Rattle.report.specs.Step.{at-Ω}
 use Rattle.report.specs.Offers.{leaf-offers, offers-✓, offers-τ, offers-event, offers, offers-some}
 use Rattle.report.specs.Offers.{Status, live, ended, stuck, status}

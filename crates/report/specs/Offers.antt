@@ -8,7 +8,7 @@ use Rattle.lines.specs.Line.{choose}
 use Rattle.terms.specs.Term.{Leaf, call, SKIP, STOP}
 use Rattle.report.specs.Process.{Event, τ, ✓, visible, Split, choice, together, Process, leaf, prefix}
 use Rattle.report.specs.Process.{internal, split, sequence, Ω, ⊥′}
-use Rattle.report.specs.Tracking.{member}
+use Rattle.frames.specs.EventSet.{member}
 use Rattle.report.specs.Step.{at-Ω}
 
 -- what a leaf offers; STOP's own step is a τ

@@ -10,7 +10,8 @@ use Rattle.terms.specs.Term.{Leaf, call, SKIP, STOP, Operator, external, parall
 use Rattle.terms.specs.Term as Term
 use Rattle.report.specs.Process.{Event, τ, ✓, visible, Split, choice, together, Process, split, Ω, ⊥′}
 use Rattle.report.specs.Process as Live
-use Rattle.report.specs.Tracking.{member, Visible, Shows}
+use Rattle.frames.specs.EventSet.{member}
+use Rattle.report.specs.Tracking.{Visible, Shows}
 
 -- a process as the plain rules have it: a term, or Ω in it
 pub data Plain : Type 0 where

@@ -14,7 +14,7 @@ use Rattle.report.specs.Process.{choice, together, Process, leaf, prefix
 use Rattle.report.specs.Process.{Ω, ⊥′, rhs}
 use Rattle.report.specs.Track.{At, Outcome, labelled, prefixed, Entered, first-eval, inside, around}
 use Rattle.report.specs.Track.{right-eval, right-inside, jointly, carried, started, ended}
-use Rattle.report.specs.Tracking.{member}
+use Rattle.frames.specs.EventSet.{member}
 
 pub record Stepped : Type 0 where
   pub outcome : Outcome

@@ -1,12 +1,12 @@
 -- Fig. 7 of the report: the tracking rules as derivations, each named by an address as document 01 has it.
 -- One constructor a rule, in the report's order, with its premises and side conditions. The derivations
 -- mention no step function.
-use Prim.Native.Nat.{ℕ, _/_, _%_, _^_}
+use Prim.Native.Nat.{ℕ}
 use mathlib.Core.Path.{_≡_}
 use mathlib.Core.Bool.{Bool, true, false}
 use mathlib.Core.List.{List, [], _∷_, _++_}
 use mathlib.Core.Option.{Option, none, some}
-use lib.Dec.{eqb}
+use Rattle.frames.specs.EventSet.{member}
 use Rattle.terms.specs.Term.{call, SKIP, STOP, Term}
 use Rattle.places.specs.Place.{Place}
 use Rattle.report.specs.Process.{Event, τ, ✓, visible, one, two, three, four, Address, choice}
@@ -14,10 +14,6 @@ use Rattle.report.specs.Process.{together, Process, leaf, prefix, intern
 use Rattle.report.specs.Process.{rhs}
 use Rattle.report.specs.Track.{At, Outcome, labelled, prefixed, first-eval, inside, around}
 use Rattle.report.specs.Track.{right-eval, right-inside, jointly, carried, started, ended}
-
--- event k is bit k of a set
-unfoldable pub member : ℕ → ℕ → Bool
-member k x = eqb (x / 2 ^ k % 2) 1
 
 -- e ∈ Σ ∪ {✓}
 abbrev pub Visible : Event → Type 0
