@@ -1,9 +1,10 @@
--- Laws of the report's rules: `Derived`, the step of an address is the derivation that it names; `Answered`, when
--- an address is accepted and which refusal it meets otherwise; `Stripped`, what a step is with tracking stripped;
--- `Offered`, offers are the derivations' events; `Stuck`, what a status says of the derivations; and `Cases`, the
--- runs of document 01 played by computation.
+-- Laws of the report's rules: `Derived`, the step of an address is the derivation that it names; `Answered`,
+-- when an address is accepted and which refusal it meets otherwise; `Quiet`, a step of τ or ✓ has no event
+-- nodes; `Stripped`, what a step is with tracking stripped; `Offered`, offers are the derivations' events;
+-- `Stuck`, what a status says of the derivations; and `Cases`, the runs of document 01 played by computation.
 pub mod Derived
 pub mod Answered
+pub mod Quiet
 pub mod Stripped
 pub mod Offered
 pub mod Stuck
