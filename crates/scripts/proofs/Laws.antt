@@ -1,6 +1,6 @@
--- What a caller of `next_step` may rely on: by which address a frame asks for a step, that every address can be asked
--- for, and that the promise leaves one outcome. The tests of `asked` are taken apart one way and met the other, and an
--- outcome is what the promise's two equations say. Assumes nothing.
+-- What a caller of `next_step` may rely on: by which address a frame asks for a step, that every address can
+-- be asked for, and that the promise leaves one outcome. The tests of `asked` are taken apart one way and met
+-- the other, and an outcome is what the promise's two equations say. Assumes nothing.
 use Prim.Native.Nat.{ℕ, zero, suc, _≤_, _<_, _+_, _*_, _/_, _%_}
 use mathlib.Core.Path.{_≡_, refl, sym, ap, _∙_}
 use mathlib.Core.Bool.{true, _&&_}

@@ -1,6 +1,6 @@
--- The answer at a cursor by what the line finder and the judging say there: no line, a refused line, or a line that
--- asks for a step. A found line is the first of the script's lines, and its characters stand for the frame that is
--- judged. Assumes nothing.
+-- The answer at a cursor by what the line finder and the judging say there: no line, a refused line, or a
+-- line that asks for a step. A found line is the first of the script's lines, and its characters stand for
+-- the frame that is judged. Assumes nothing.
 use Prim.Native.Nat.{ℕ, _≤_, _-_, _+_, _*_, _/_}
 use mathlib.Core.Path.{_≡_, refl, sym, ap, _∙_}
 use mathlib.Core.Bool.{Bool, true, false, _&&_}
@@ -123,13 +123,14 @@ module _ (s : List ℕ) (at : ℕ) where
       step-line z =
           let q = is-step (line .held) (sym z ∙ judged (line .held) stands) in
           let k : length cs ≡ 2 * length (line .held) = bytes-length cs (line .held) stands in
-          let d : length (digits (line .held)) ≡ length cs / 2 - 3 = omega (arith, length-drop 3 (line .held)) in
+          let ds = digits (line .held) in
+          let d : length ds ≡ length cs / 2 - 3 = omega (arith, length-drop 3 (line .held)) in
           record {
             held = line .held;
             stands = stands;
             long = omega arith;
             few = omega arith;
             counted = d;
-            told = rw (← d) (answered (address (digits (line .held))) (q .asks));
-            stored = leaves (address (digits (line .held))) (q .asks);
+            told = rw (← d) (answered (address ds) (q .asks));
+            stored = leaves (address ds) (q .asks);
           }

@@ -36,19 +36,20 @@ const WRONG_FRAME: u8 = 2;
 
 const OUT_OF_RANGE: u8 = 3;
 
-// What the next line of a script asks for: a step, by an address of `count` digits, with the next line from `next`
-// on; the number of the line's refusal; or nothing, at the end of the script.
+// What the next line of a script asks for: a step, by an address of `count` digits, with the next line from
+// `next` on; the number of the line's refusal; or nothing, at the end of the script.
 pub enum Step {
     Address { count: usize, next: usize },
     Refused(u8),
     End,
 }
 
-// The next line of a script from a cursor. Its digits go to the front of `digits`; a refusal leaves the array as it
-// was.
+// The next line of a script from a cursor. Its digits go to the front of `digits`; a refusal
+// leaves the array as it was.
 pub fn next_step(text: &[u8], at: usize, digits: &mut [u8; 1024]) -> Step
     ensures { λ r. ⌜ r ≡ answer at (lines (drop at (now (text .entry)))) ⌝ }
-    ensures { λ _. ⌜ now (digits .exit) ≡ sets (now (digits .entry)) 0 (left (lines (drop at (now (text .entry))))) ⌝ }
+    ensures { λ _. ⌜ now (digits .exit)
+        ≡ sets (now (digits .entry)) 0 (left (lines (drop at (now (text .entry))))) ⌝ }
 {
     let line = next_line(text, at);
     let Line::Found { end, next } = line else {

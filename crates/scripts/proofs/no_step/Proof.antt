@@ -1,5 +1,5 @@
--- `scripts::no_step` meets its contract: each arm knows the variant, and its answer is what `without-line` has for it.
--- Assumes nothing.
+-- `scripts::no_step` meets its contract: each arm knows the variant, and its answer is what `without-line`
+-- has for it. Assumes nothing.
 use mathlib.Core.Path.{sym, ap}
 use borrow.Author.Needs.{needs}
 use Rattle.scripts.specs.Code.{without-line}

@@ -1,6 +1,6 @@
--- `scripts::write_digits` meets its contract. The loop's invariant: storing the digits from number i on completes the
--- array that is promised; a turn stores one of them, and none is left at the end. The measure is how many are left.
--- Assumes nothing.
+-- `scripts::write_digits` meets its contract. The loop's invariant: storing the digits from number i on
+-- completes the array that is promised; a turn stores one of them, and none is left at the end. The measure
+-- is how many are left. Assumes nothing.
 use Prim.Native.Nat.{ℕ, _≤_, _-_}
 use mathlib.Core.Path.{_≡_, refl, sym, _∙_}
 use mathlib.Core.List.{List}
