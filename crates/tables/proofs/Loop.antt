@@ -51,7 +51,7 @@ unfolding answer seen
 answer-accepted t s e = ap (λ (u : Seen). Accepted (counts u)) e
 
 -- what is accepted behind the last line is what was said before it
-behind-accepts : (S T : Sofar) (n : ℕ) (ls : List Raw) → behind S n ls ≡ accepted T → S ≡ T
+pub behind-accepts : (S T : Sofar) (n : ℕ) (ls : List Raw) → behind S n ls ≡ accepted T → S ≡ T
 unfolding behind
 behind-accepts S T n [] e = cc
 behind-accepts S T n (l ∷ ls) e = let z : _≡_ {A = ℕ} 0 1 = cc in absurd (omega arith)
