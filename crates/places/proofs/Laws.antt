@@ -1,6 +1,6 @@
--- What a caller may rely on. By induction over the sides of terms each literal of a term has exactly one place, of at most 64
--- digits, and following columns which hold a term gives its paths; so the door `place` answers with the places of a table's
--- literals, and its promise leaves no choice. Assumes nothing.
+-- What a caller may rely on. By induction over the sides of terms each literal of a term has exactly one
+-- place, of at most 64 digits, and following columns which hold a term gives its paths; so the door `place`
+-- answers with the places of a table's literals, and its promise leaves no choice. Assumes nothing.
 use Prim.Native.Nat.{ℕ, zero, suc, _+_, _≤_, _<_}
 use mathlib.Core.Path.{_≡_, refl, sym, ap, _∙_}
 use mathlib.Core.Bool.{Bool, true, false}
@@ -30,8 +30,10 @@ use Rattle.places.specs.declared.Literal.the-variants.{Left, Own, Event}
 use Rattle.places.specs.declared.Placed.{Placed}
 use Rattle.places.specs.declared.Placed.the-variants.{At, Nowhere}
 use Rattle.places.proofs.Sides.{Side, only, first, second, by-number, path-root, term-root, literal-root}
-use Rattle.places.proofs.Sides.{side-first, side-inside, side-at, side-literal, side-shallow, prefix-inside}
-use Rattle.places.proofs.Ways.{look-in, step-only, step-first, step-second, descended-here, descended-step}
+use Rattle.places.proofs.Sides.{side-first, side-inside, side-at, side-literal, side-shallow}
+use Rattle.places.proofs.Sides.{prefix-inside}
+use Rattle.places.proofs.Ways.{look-in, step-only, step-first, step-second, descended-here}
+use Rattle.places.proofs.Ways.{descended-step}
 use Rattle.places.proofs.Literals.{Places}
 
 -- literals numbered from another start

@@ -1,5 +1,6 @@
--- A term's numbers side by side: number 0 is the term itself, and any other stands in one of its sides, which has a digit and a
--- first number. What a side says of numbers, paths and literals is read off the definitions. Assumes nothing.
+-- A term's numbers side by side: number 0 is the term itself, and any other stands in one of its sides, which
+-- has a digit and a first number. What a side says of numbers, paths and literals is read off the
+-- definitions. Assumes nothing.
 use Prim.Native.Nat.{ℕ, zero, suc, _+_, _-_, _≤_, _<_}
 use mathlib.Core.Path.{_≡_, refl}
 use mathlib.Core.Bool.{Bool, true, false}

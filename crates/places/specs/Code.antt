@@ -1,5 +1,6 @@
--- What following terms downward computes, whatever the columns hold: from term i, in at most so many digits, to term j, by the
--- subterm that j stands in. `proofs/Laws.antt` shows that it is the path where the columns hold a term.
+-- What following terms downward computes, whatever the columns hold: from term i, in at most so many
+-- digits, to term j, by the subterm that j stands in. `proofs/Laws.antt` shows that it is the path
+-- where the columns hold a term.
 use Prim.Native.Nat.{ℕ, zero, suc, _+_}
 use mathlib.Core.Bool.{_&&_}
 use mathlib.Core.List.{List, [], _∷_}
@@ -27,8 +28,8 @@ pub record Columns : Type 0 where
 unfoldable pub look : ℕ → List ℕ → ℕ → ℕ
 look n xs i = choose (ltb i n) (getD xs i 0) 0
 
--- the way from a term i of n subterms to term j: to its second subterm, or to its first, by the digit 1 where it has two; a
--- prefix's only subterm is by the digit 2
+-- the way from a term i of n subterms to term j: to its second subterm, or to its first, by the digit 1 where
+-- it has two; a prefix's only subterm is by the digit 2
 unfoldable pub next : ℕ → List ℕ → ℕ → ℕ → ℕ
 next n xs i j = choose (eqb n 2 && leb (look 1024 xs (i + 1)) j) (look 1024 xs (i + 1)) (i + 1)
 

@@ -1,6 +1,6 @@
--- Document 01, 'Places', and Definition 1 of the report: a place is a definition and a path. The left-hand side has path 0. The
--- right-hand side's root has the empty path. Subterms of a term at w are at w.1 and w.2; a prefix's event is at w.1, its arrow at
--- w, its continuation at w.2.
+-- Document 01, 'Places', and Definition 1 of the report: a place is a definition and a path. The left-hand
+-- side has path 0. The right-hand side's root has the empty path. Subterms of a term at w are at w.1 and w.2;
+-- a prefix's event is at w.1, its arrow at w, its continuation at w.2.
 use Prim.Native.Nat.{ℕ, zero, suc, _+_, _-_}
 use mathlib.Core.List.{List, [], _∷_, _++_}
 use mathlib.Core.Option.{Option, none, some}
@@ -45,7 +45,8 @@ event-path w = w ++ (1 ∷ [])
 abbrev pub left-path : List ℕ
 left-path = 0 ∷ []
 
--- a literal of a right-hand side, by the number of its term: the term's own literal (a prefix's arrow), or a prefix's event
+-- a literal of a right-hand side, by the number of its term: the term's own literal (a prefix's
+-- arrow), or a prefix's event
 pub data Literal : Type 0 where
   own : ℕ → Literal
   event : ℕ → Literal

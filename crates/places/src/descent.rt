@@ -3,13 +3,13 @@ use crate::Reached;
 use crate::Step;
 use frames::subterms;
 ghost use mathlib.Core.Path.{_≡_};
-ghost use Prim.Native.Nat.{_-_, _+_, _≤_, _<_};
+ghost use Prim.Native.Nat.{_-_, _≤_, _<_};
 ghost use lib.Seq.{sets};
 ghost use Rattle.places.specs.Code as code;
 ghost use Rattle.places.specs.Code.{look, descended, reached, digits};
 
-// Writes the digits from term `from`, which stands at a depth, down to term `to`, up to so many in all; nothing is written
-// where there is no such way.
+// Writes the digits from term `from`, which stands at a depth, down to term `to`, up to so many in all;
+// nothing is written where there is no such way.
 pub fn descend(
     from: usize,
     to: usize,
@@ -20,8 +20,10 @@ pub fn descend(
     path: &mut [u8; 64],
 ) -> Reached
     requires { ⌜ (depth ≤ most) × (most ≤ 64) ⌝ }
-    ensures { λ r. ⌜ r ≡ reached depth (descended (most - depth) (now (kinds .entry)) (now (after .entry)) from to) ⌝ }
-    ensures { λ _. ⌜ now (path .exit) ≡ sets (now (path .entry)) depth (digits (descended (most - depth) (now (kinds .entry)) (now (after .entry)) from to)) ⌝ }
+    ensures { λ r. ⌜ r ≡ reached depth
+        (descended (most - depth) (now (kinds .entry)) (now (after .entry)) from to) ⌝ }
+    ensures { λ _. ⌜ now (path .exit) ≡ sets (now (path .entry)) depth (digits
+        (descended (most - depth) (now (kinds .entry)) (now (after .entry)) from to)) ⌝ }
 {
     if from == to {
         return Reached::Ends(depth);
@@ -45,7 +47,8 @@ pub fn descend(
 // The subterm of a term that `to` stands in, where the term has so many.
 fn step_to(from: usize, to: usize, count: u8, after: &[u16; 1024]) -> Step
     requires { ⌜ from < 1024 ⌝ }
-    ensures { λ r. ⌜ (r .next ≡ code.next count (now (after .entry)) from to) × (r .digit ≡ code.digit count (now (after .entry)) from to) ⌝ }
+    ensures { λ r. ⌜ (r .next ≡ code.next count (now (after .entry)) from to)
+        × (r .digit ≡ code.digit count (now (after .entry)) from to) ⌝ }
 {
     let first = from + 1;
     if count != 2 {

@@ -14,15 +14,16 @@ ghost use Rattle.places.specs.Code.{answer, columns, digits, literal-pat
 
 const PREFIX: u8 = 2;
 
-// A literal: the left-hand side of a definition; the own literal of a term, by its number, which for a prefix is the arrow;
-// or the event of a prefix.
+// A literal: the left-hand side of a definition; the own literal of a term, by its number, which for a prefix
+// is the arrow; or the event of a prefix.
 pub enum Literal {
     Left(u8),
     Own(usize),
     Event(usize),
 }
 
-// The place of a literal, whose path stands in front of the lent array; `Nowhere` where the columns hold no such literal.
+// The place of a literal, whose path stands in front of the lent array; `Nowhere` where the
+// columns hold no such literal.
 pub enum Placed {
     At { definition: u8, length: usize },
     Nowhere,
@@ -40,7 +41,8 @@ pub struct Step {
     pub digit: u8,
 }
 
-// The place of a literal by the columns of a table. Its path's digits go to the front of `path`; `Nowhere` leaves it as it was.
+// The place of a literal by the columns of a table. Its path's digits go to the front of `path`; `Nowhere`
+// leaves it as it was.
 pub fn place(
     literal: Literal,
     kinds: &[u8; 1024],
@@ -49,8 +51,12 @@ pub fn place(
     roots: &[u16; 64],
     path: &mut [u8; 64],
 ) -> Placed
-    ensures { λ r. ⌜ r ≡ answer (columns (now (kinds .entry)) (now (owners .entry)) (now (after .entry)) (now (roots .entry))) literal ⌝ }
-    ensures { λ _. ⌜ now (path .exit) ≡ sets (now (path .entry)) 0 (digits (literal-path (columns (now (kinds .entry)) (now (owners .entry)) (now (after .entry)) (now (roots .entry))) literal)) ⌝ }
+    ensures { λ r. ⌜ r ≡ answer
+        (columns (now (kinds .entry)) (now (owners .entry)) (now (after .entry)) (now (roots .entry)))
+        literal ⌝ }
+    ensures { λ _. ⌜ now (path .exit) ≡ sets (now (path .entry)) 0 (digits (literal-path
+        (columns (now (kinds .entry)) (now (owners .entry)) (now (after .entry)) (now (roots .entry)))
+        literal)) ⌝ }
 {
     match literal {
         Literal::Left(definition) => {
@@ -95,8 +101,12 @@ fn path_to(
     path: &mut [u8; 64],
 ) -> Reached
     requires { ⌜ most ≤ 64 ⌝ }
-    ensures { λ r. ⌜ r ≡ reached 0 (path-of most (columns (now (kinds .entry)) (now (owners .entry)) (now (after .entry)) (now (roots .entry))) n) ⌝ }
-    ensures { λ _. ⌜ now (path .exit) ≡ sets (now (path .entry)) 0 (digits (path-of most (columns (now (kinds .entry)) (now (owners .entry)) (now (after .entry)) (now (roots .entry))) n)) ⌝ }
+    ensures { λ r. ⌜ r ≡ reached 0 (path-of most
+        (columns (now (kinds .entry)) (now (owners .entry)) (now (after .entry)) (now (roots .entry)))
+        n) ⌝ }
+    ensures { λ _. ⌜ now (path .exit) ≡ sets (now (path .entry)) 0 (digits (path-of most
+        (columns (now (kinds .entry)) (now (owners .entry)) (now (after .entry)) (now (roots .entry)))
+        n)) ⌝ }
 {
     let definition = byte_of(n, owners);
     let root = root_of(wide(definition), roots);
@@ -112,8 +122,12 @@ fn event_to(
     roots: &[u16; 64],
     path: &mut [u8; 64],
 ) -> Reached
-    ensures { λ r. ⌜ r ≡ reached 0 (event-of (columns (now (kinds .entry)) (now (owners .entry)) (now (after .entry)) (now (roots .entry))) n) ⌝ }
-    ensures { λ _. ⌜ now (path .exit) ≡ sets (now (path .entry)) 0 (digits (event-of (columns (now (kinds .entry)) (now (owners .entry)) (now (after .entry)) (now (roots .entry))) n)) ⌝ }
+    ensures { λ r. ⌜ r ≡ reached 0 (event-of
+        (columns (now (kinds .entry)) (now (owners .entry)) (now (after .entry)) (now (roots .entry)))
+        n) ⌝ }
+    ensures { λ _. ⌜ now (path .exit) ≡ sets (now (path .entry)) 0 (digits (event-of
+        (columns (now (kinds .entry)) (now (owners .entry)) (now (after .entry)) (now (roots .entry)))
+        n)) ⌝ }
 {
     let kind = byte_of(n, kinds);
     if kind != PREFIX {

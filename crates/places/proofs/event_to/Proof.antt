@@ -1,5 +1,5 @@
--- `places::event_to` meets its contract. A term that is no prefix has no event; a prefix's path has at most 63 digits, so that
--- the event's digit fits behind it. Assumes nothing.
+-- `places::event_to` meets its contract. A term that is no prefix has no event; a prefix's path has at most
+-- 63 digits, so that the event's digit fits behind it. Assumes nothing.
 use native.Mathlib.Omega.{arith}
 use mathlib.Core.Path.{_∙_, sym}
 use Rattle.places.specs.Code.{columns}

@@ -1,5 +1,5 @@
--- `places::descent::step_to` meets its contract: a step by the number of subterms and the side that the aim stands on.
--- Assumes nothing.
+-- `places::descent::step_to` meets its contract: a step by the number of subterms and the side that the aim
+-- stands on. Assumes nothing.
 use Rattle.places.proofs.Ways.{step-only, step-second, step-first}
 use borrow.Author.Needs.{needs}
 use Rattle.places.proofs.descent.step_to.Statement.{statement}
