@@ -1,5 +1,6 @@
--- What a text says at a cursor. Where the next line is none, its number is that of the answer; where it is one, its characters
--- are a part of the text that stands for bytes, and the frame that was read of it is theirs. Assumes nothing.
+-- What a text says at a cursor. Where the next line is none, its number is that of the answer; where it is
+-- one, its characters are a part of the text that stands for bytes, and the frame that was read of it is
+-- theirs. Assumes nothing.
 use Prim.Native.Nat.{ℕ, _-_, _+_}
 use mathlib.Core.Path.{_≡_, refl, sym, ap, _∙_}
 use mathlib.Core.Bool.{Bool, true, false, not}
@@ -35,7 +36,8 @@ NotOpening f = OneOf (1 ∷ 2 ∷ 3 ∷ 4 ∷ []) (tagOf frame-type.the-type f)
 -- no line: 1 where there is something else, and 2 where there is nothing
 no-line : {A : Type 0} (told : ℕ → A) (of : List Raw → A) → told 2 ≡ of []
     → ((l : Raw) (ls : List Raw) → frame l ≡ none → told 1 ≡ of (l ∷ ls))
-    → (s : List ℕ) (at : ℕ) (l : Line) → l ≡ answer at (lines (drop at s)) → NotFound l → told (refusal l) ≡ of (lines (drop at s))
+    → (s : List ℕ) (at : ℕ) (l : Line) → l ≡ answer at (lines (drop at s)) → NotFound l
+    → told (refusal l) ≡ of (lines (drop at s))
 unfolding refusal
 no-line told of nothing broken s at (Found e n) q h = absurd (miss (1 ∷ 2 ∷ []) 0 tt h)
 no-line told of nothing broken s at NoLine q h =
@@ -69,14 +71,15 @@ opened-line s e n i =
     let p : length (part s 0 e) + 1 ≡ n = omega (arith, past s 0 e n i) in
     rw (i .first, i .framed, p)
 
-module _ (r : Frame → ℕ) (n : ℕ) {f : Frame} (bs : List ℕ) (read : f ≡ frame-of bs) {x : ℕ} (meets : x ≡ r f) where
-  heard-stops : (x ≡ 0 → ⊥) → Stops x ≡ heard r n (some bs)
-  unfolding heard
-  heard-stops h = rw (← read, ← meets) (simp (ne-eqb x 0 h))
+module _ (r : Frame → ℕ) (n : ℕ) {f : Frame} (bs : List ℕ) (read : f ≡ frame-of bs) {x : ℕ} (meets : x ≡ r f)
+  where
+    heard-stops : (x ≡ 0 → ⊥) → Stops x ≡ heard r n (some bs)
+    unfolding heard
+    heard-stops h = rw (← read, ← meets) (simp (ne-eqb x 0 h))
 
-  heard-goes : x ≡ 0 → Goes f n ≡ heard r n (some bs)
-  unfolding heard
-  heard-goes h = rw (← read, ← meets) (simp (eq-eqb x 0 h))
+    heard-goes : x ≡ 0 → Goes f n ≡ heard r n (some bs)
+    unfolding heard
+    heard-goes h = rw (← read, ← meets) (simp (eq-eqb x 0 h))
 
 swapped : {A : Type 0} (t : Bool) (a b : A) → choose (not t) a b ≡ choose t b a
 swapped true a b = refl
@@ -97,7 +100,8 @@ opens-other n Wrong h = refl
 
 -- what was found at a cursor, and the frame that was read of its characters
 module _ (s : List ℕ) (at e n : ℕ) {l : Line} (seen : l ≡ answer at (lines (drop at s))) (found : l ≡ Found e n)
-    {cs : List ℕ} (chars : cs ≡ part s at e) {f : Frame} (read : (bs : List ℕ) → bytes cs ≡ some bs → f ≡ frame-of bs) where
+    {cs : List ℕ} (chars : cs ≡ part s at e) {f : Frame}
+    (read : (bs : List ℕ) → bytes cs ≡ some bs → f ≡ frame-of bs) where
   its : IsLine s at e n
   its = is-line s at e n (sym seen ∙ found)
 
@@ -112,13 +116,17 @@ module _ (s : List ℕ) (at e n : ℕ) {l : Line} (seen : l ≡ answer at (lines
     said-goes h = heard-goes r n (its .held) framed meets h ∙ said-line s at e n its r
 
 module _ (s : List ℕ) (e n : ℕ) {l : Line} (seen : l ≡ answer 0 (lines s)) (found : l ≡ Found e n)
-    {cs : List ℕ} (chars : cs ≡ part s 0 e) {f : Frame} (read : (bs : List ℕ) → bytes cs ≡ some bs → f ≡ frame-of bs) where
+    {cs : List ℕ} (chars : cs ≡ part s 0 e) {f : Frame}
+    (read : (bs : List ℕ) → bytes cs ≡ some bs → f ≡ frame-of bs) where
   opened-is : opens n f ≡ opened (lines s)
-  opened-is = ap (opens n) (framed s 0 e n seen found chars read) ∙ opened-line s e n (its s 0 e n seen found chars read)
+  opened-is =
+      ap (opens n) (framed s 0 e n seen found chars read)
+      ∙ opened-line s e n (its s 0 e n seen found chars read)
 
   pub opened-other : NotOpening f → Fails 2 ≡ opened (lines s)
   opened-other h = opens-other n f h ∙ opened-is
 
-  pub opened-first : {ed dd ee : ℕ} → f ≡ Opening ed dd ee → {x b : Bool} → x ≡ not (eqb (first-refusal (Opening ed dd ee)) 0) → x ≡ b
+  pub opened-first : {ed dd ee : ℕ} → f ≡ Opening ed dd ee → {x b : Bool}
+      → x ≡ not (eqb (first-refusal (Opening ed dd ee)) 0) → x ≡ b
       → choose b (Fails 3) (Table dd ee n) ≡ opened (lines s)
   opened-first {ed} {dd} {ee} o e h = opens-first n ed dd ee e h ∙ ap (opens n) (sym o) ∙ opened-is

@@ -1,14 +1,14 @@
 -- What is known of a frame that meets no refusal: each of the tests in front of 0 failed. Assumes nothing.
 use Prim.Native.Nat.{ℕ, suc, _+_, _≤_, _<_}
-use mathlib.Core.Path.{_≡_, refl, sym, ap, _∙_}
-use mathlib.Core.Bool.{Bool, true, false, _||_, not}
+use mathlib.Core.Path.{_≡_, refl}
+use mathlib.Core.Bool.{Bool, true, false, _||_}
 use native.Mathlib.Omega.{arith}
-use lib.Dec.{leb, ltb, eqb}
+use lib.Dec.{eqb}
 use borrow.Author.Tests.{leb-false, ltb-false, eqb-true, eqb-false, not-false}
 use Rattle.lines.specs.Line.{choose}
 use Rattle.frames.specs.Kind.{prefix}
-use Rattle.frames.specs.TableFrame.{limit, longest, refusal, first-refusal, path-room, term-room}
-use Rattle.frames.specs.declared.Frame.the-variants.{Opening, Definition, Term, Closing, Wrong}
+use Rattle.frames.specs.TableFrame.{limit, longest, refusal}
+use Rattle.frames.specs.declared.Frame.the-variants.{Definition, Term, Closing}
 use Rattle.frames.specs.declared.Seen.{Seen}
 
 -- a test whose number was not given failed, and the tests behind it decide
@@ -59,7 +59,8 @@ module _ (s : Seen) where
   pub depth-fits : (k p : ℕ) → FineTerm k p s → s .depth ≤ 64
   depth-fits k p f = omega (arith, longest-above s k, f .short)
 
-  pub fine-definition : (n : ℕ) → refusal (Definition n) s ≡ 0 → (n ≡ s .begun) × (n < s .definitions) × (s .due ≡ 0)
+  pub fine-definition : (n : ℕ) → refusal (Definition n) s ≡ 0
+      → (n ≡ s .begun) × (n < s .definitions) × (s .due ≡ 0)
   unfolding refusal
   fine-definition n e =
       let a = passed _ 2 _ e in
@@ -67,7 +68,8 @@ module _ (s : Seen) where
       let f = neither _ _ (a .0) in
       (eqb-true _ _ (not-false _ (f .0)), leb-false _ _ (f .1), eqb-true _ _ (not-false _ (b .0)))
 
-  pub fine-closing : (t : ℕ) → refusal (Closing t) s ≡ 0 → (t ≡ s .terms) × (s .due ≡ 0) × (s .definitions ≤ s .begun)
+  pub fine-closing : (t : ℕ) → refusal (Closing t) s ≡ 0
+      → (t ≡ s .terms) × (s .due ≡ 0) × (s .definitions ≤ s .begun)
   unfolding refusal
   fine-closing t e =
       let a = passed _ 2 _ e in

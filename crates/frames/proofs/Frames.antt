@@ -1,8 +1,8 @@
--- What frame a line's characters stand for: its bytes have a tag, the tag has a shape, and the shape has a count of bytes, which
--- fits or does not. Assumes nothing.
-use Prim.Native.Nat.{ℕ, zero, suc, _≤_, _<_, _-_, _+_, _*_, _/_}
+-- What frame a line's characters stand for: its bytes have a tag, the tag has a shape, and the shape has a
+-- count of bytes, which fits or does not. Assumes nothing.
+use Prim.Native.Nat.{ℕ, _≤_, _<_, _-_, _+_, _*_, _/_}
 use mathlib.Core.Path.{_≡_, sym, _∙_}
-use mathlib.Core.List.{List, [], _∷_}
+use mathlib.Core.List.{List}
 use mathlib.Core.Option.{some}
 use native.Mathlib.Omega.{arith}
 use lib.ListN.{length, take, drop, getD, length-drop}
@@ -12,7 +12,7 @@ use borrow.Author.Tests.{le-leb, lt-leb, eq-eqb, ne-eqb}
 use Rattle.lines.specs.Line.{choose, number, bytes}
 use Rattle.lines.specs.Code.{byteAt, numberOf}
 use Rattle.lines.proofs.Laws.{bytes-length, bytes-drop, byte-is, number-is}
-use Rattle.frames.specs.Kind.{known, payload-table, payload-bytes}
+use Rattle.frames.specs.Kind.{known, payload-bytes}
 use Rattle.frames.specs.TableFrame.{frame-of}
 use Rattle.frames.specs.declared.Frame.{Frame}
 use Rattle.frames.specs.declared.Frame.the-variants.{Opening, Definition, Term, Closing, Wrong}
@@ -22,7 +22,8 @@ pub record Shape (bs : List ℕ) (t n : ℕ) (f : Frame) : Type 0 where
   pub by-count : getD bs 0 0 ≡ t → choose (eqb (length bs) n) f Wrong ≡ frame-of bs
 
 module _ (bs : List ℕ) where
-  pub opening : {ed dd ee : ℕ} → ed ≡ getD bs 1 0 → dd ≡ getD bs 2 0 → ee ≡ getD bs 3 0 → Shape bs 0x10 4 (Opening ed dd ee)
+  pub opening : {ed dd ee : ℕ} → ed ≡ getD bs 1 0 → dd ≡ getD bs 2 0 → ee ≡ getD bs 3 0
+      → Shape bs 0x10 4 (Opening ed dd ee)
   unfolding frame-of
   opening p q r = record { by-count = λ h. rw (p, q, r, h) }
 
@@ -35,9 +36,13 @@ module _ (bs : List ℕ) where
   closing p = record { by-count = λ h. rw (p, h) }
 
   module _ {k : ℕ} (kind : k ≡ getD bs 1 0) where
-    pub term : {w p : ℕ} → 1 ≤ k → k ≤ 8 → w ≡ payload-bytes k → p ≡ number (drop 2 bs) → Shape bs 0x12 (2 + w) (Term k p)
+    pub term : {w p : ℕ} → 1 ≤ k → k ≤ 8 → w ≡ payload-bytes k → p ≡ number (drop 2 bs)
+        → Shape bs 0x12 (2 + w) (Term k p)
     unfolding frame-of known
-    term h j e p = record { by-count = λ t. simp (e, p, kind, t, rw kind at (le-leb 1 k h), rw kind at (le-leb k 8 j)) }
+    term h j e p =
+        let from = rw kind at (le-leb 1 k h) in
+        let to = rw kind at (le-leb k 8 j) in
+        record { by-count = λ t. simp (e, p, kind, t, from, to) }
 
     pub no-kind : getD bs 0 0 ≡ 0x12 → k < 1 → Wrong ≡ frame-of bs
     unfolding frame-of known
@@ -52,21 +57,6 @@ module _ (bs : List ℕ) where
   unfolding frame-of
   no-tag {t} e p q r s = simp (sym e, ne-eqb t 0x12 p, ne-eqb t 0x11 q, ne-eqb t 0x1f r, ne-eqb t 0x10 s)
 
--- the largest of a list
-largest : List ℕ → ℕ
-largest [] = 0
-largest (x ∷ xs) = x + (largest xs - x)
-
-at-most : (xs : List ℕ) (k : ℕ) → getD xs k 0 ≤ largest xs
-unfolding largest
-at-most [] k = omega arith
-at-most (x ∷ xs) zero = omega arith
-at-most (x ∷ xs) (suc k) = let r = at-most xs k in omega arith
-
-pub payload-fits : (k : ℕ) → payload-bytes k ≤ 8
-unfolding payload-bytes largest
-payload-fits k = at-most payload-table k
-
 -- the characters of a line, and its bytes
 module _ (cs bs : List ℕ) (stands : bytes cs ≡ some bs) where
   counted : length bs ≡ length cs / 2
@@ -75,7 +65,8 @@ module _ (cs bs : List ℕ) (stands : bytes cs ≡ some bs) where
   pub fits : {t n : ℕ} {f : Frame} → Shape bs t n f → getD bs 0 0 ≡ t → length cs / 2 ≡ n → f ≡ frame-of bs
   fits {t} {n} {f} s tag h = rw (eq-eqb (length bs) n (counted ∙ h)) at (s .by-count tag)
 
-  pub misfits : {t n : ℕ} {f : Frame} → Shape bs t n f → getD bs 0 0 ≡ t → (length cs / 2 ≡ n → ⊥) → Wrong ≡ frame-of bs
+  pub misfits : {t n : ℕ} {f : Frame} → Shape bs t n f → getD bs 0 0 ≡ t → (length cs / 2 ≡ n → ⊥)
+      → Wrong ≡ frame-of bs
   misfits {t} {n} {f} s tag h = rw (ne-eqb (length bs) n (λ q. h (sym counted ∙ q))) at (s .by-count tag)
 
   pub byte-read : (k : ℕ) {b : ℕ} → b ≡ byteAt cs k → b ≡ getD bs k 0
@@ -88,4 +79,5 @@ module _ (cs bs : List ℕ) (stands : bytes cs ≡ some bs) where
       → n ≡ numberOf 0 (take (length cs - 2 * k) (drop (2 * k) cs)) → n ≡ number (drop k bs)
   number-read k h e =
       let whole = take-all (length cs - 2 * k) (drop (2 * k) cs) (omega (arith, length-drop (2 * k) cs)) in
-      e ∙ rw whole (number-is (drop (2 * k) cs) (drop k bs) (bytes-drop cs bs k stands) (omega (arith, counted, length-drop k bs)))
+      let eight : length (drop k bs) ≤ 8 = omega (arith, counted, length-drop k bs) in
+      e ∙ rw whole (number-is (drop (2 * k) cs) (drop k bs) (bytes-drop cs bs k stands) eight)

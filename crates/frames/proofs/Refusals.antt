@@ -1,5 +1,5 @@
--- What number a line meets, at each place where its tests can stop. Each law takes the facts that the tests before it told, and
--- computes with them. Assumes nothing.
+-- What number a line meets, at each place where its tests can stop. Each law takes the facts that the tests
+-- before it told, and computes with them. Assumes nothing.
 use Prim.Native.Nat.{ℕ, _≤_, _<_, _*_, _%_, _^_}
 use mathlib.Core.Path.{_≡_, refl, sym, ap, _∙_}
 use mathlib.Core.Bool.{Bool, true, false, not}
@@ -46,7 +46,8 @@ module _ (ed dd ee : ℕ) where
 
       pub outside-events : dd ≤ 64 → outside ed dd ee ≡ ltb 64 ee
       unfolding first-refusal
-      outside-events h = simp (eq-eqb ed 1 edition, le-leb 1 dd some, le-leb dd 64 h) (fails (leb ee 64) ∙ sym (past 64 ee))
+      outside-events h =
+          simp (eq-eqb ed 1 edition, le-leb 1 dd some, le-leb dd 64 h) (fails (leb ee 64) ∙ sym (past 64 ee))
 
 -- a definition
 module _ (n : ℕ) (s : Seen) where
@@ -62,11 +63,13 @@ module _ (n : ℕ) (s : Seen) where
     module _ (inside : n < s .definitions) where
       pub definition-early : (s .due ≡ 0 → ⊥) → refusal (Definition n) s ≡ 4
       unfolding refusal
-      definition-early h = simp (eq-eqb n (s .begun) next, lt-leb (s .definitions) n inside, ne-eqb (s .due) 0 h)
+      definition-early h =
+          simp (eq-eqb n (s .begun) next, lt-leb (s .definitions) n inside, ne-eqb (s .due) 0 h)
 
       pub definition-fine : s .due ≡ 0 → refusal (Definition n) s ≡ 0
       unfolding refusal
-      definition-fine h = simp (eq-eqb n (s .begun) next, lt-leb (s .definitions) n inside, eq-eqb (s .due) 0 h)
+      definition-fine h =
+          simp (eq-eqb n (s .begun) next, lt-leb (s .definitions) n inside, eq-eqb (s .due) 0 h)
 
 -- the last line
 module _ (t : ℕ) (s : Seen) where
@@ -83,12 +86,14 @@ module _ (t : ℕ) (s : Seen) where
       pub closing-early : s .begun < s .definitions → refusal (Closing t) s ≡ 4
       unfolding refusal
       closing-early h =
-          simp (eq-eqb t (s .terms) counts, eq-eqb (s .due) 0 (omega arith), lt-ltb (s .begun) (s .definitions) h)
+          let none-due = eq-eqb (s .due) 0 (omega arith) in
+          simp (eq-eqb t (s .terms) counts, none-due, lt-ltb (s .begun) (s .definitions) h)
 
       pub closing-fine : s .definitions ≤ s .begun → refusal (Closing t) s ≡ 0
       unfolding refusal
       closing-fine h =
-          simp (eq-eqb t (s .terms) counts, eq-eqb (s .due) 0 (omega arith), le-ltb (s .begun) (s .definitions) h)
+          let none-due = eq-eqb (s .due) 0 (omega arith) in
+          simp (eq-eqb t (s .terms) counts, none-due, le-ltb (s .begun) (s .definitions) h)
 
 -- a term
 module _ (k p : ℕ) (s : Seen) where
@@ -109,12 +114,14 @@ module _ (k p : ℕ) (s : Seen) where
       module _ (due : s .due ≡ 0 → ⊥) where
         pub term-crowded : 1024 ≤ s .terms → refusal (Term k p) s ≡ 5
         unfolding refusal
-        term-crowded h = simp (ne-eqb (s .begun) 0 inside, named, ne-eqb (s .due) 0 due, le-leb 1024 (s .terms) h)
+        term-crowded h =
+            simp (ne-eqb (s .begun) 0 inside, named, ne-eqb (s .due) 0 due, le-leb 1024 (s .terms) h)
 
         module _ (room : s .terms < 1024) where
           pub term-last : {deep : Bool} → ltb 64 (longest s k) ≡ deep → refusal (Term k p) s ≡ choose deep 5 0
           unfolding refusal
-          term-last h = simp (ne-eqb (s .begun) 0 inside, named, ne-eqb (s .due) 0 due, lt-leb 1024 (s .terms) room, h)
+          term-last h =
+              simp (ne-eqb (s .begun) 0 inside, named, ne-eqb (s .due) 0 due, lt-leb 1024 (s .terms) room, h)
 
 -- the path of a term's own literals, by its kind
 module _ (s : Seen) (k : ℕ) where
@@ -126,7 +133,8 @@ module _ (s : Seen) (k : ℕ) where
   unfolding longest
   deep-other h = simp (ne-eqb k 2 h)
 
--- what a payload is below, by its kind: a set's limit is made by the shift, where it is within 64 bits as every set is
+-- what a payload is below, by its kind: a set's limit is made by the shift, where it is
+-- within 64 bits as every set is
 module _ (k p : ℕ) (s : Seen) where
   pub over-call : k ≡ 1 → leb (s .definitions) p ≡ leb (limit s k) p
   unfolding limit
@@ -143,7 +151,9 @@ module _ (k p : ℕ) (s : Seen) where
   pub over-shifted : k ≡ 6 → s .events < 64 → leb (1 * 2 ^ s .events % 2 ^ 64) p ≡ leb (limit s k) p
   unfolding limit
   over-shifted h j =
-      rw h (ap (λ (n : ℕ). leb n p) (shl-exact 1 (s .events) 64 (omega arith) (omega arith) ∙ one-mul (2 ^ s .events)))
+      rw h
+      (ap (λ (n : ℕ). leb n p)
+      (shl-exact 1 (s .events) 64 (omega arith) (omega arith) ∙ one-mul (2 ^ s .events)))
 
   pub over-other : (k ≡ 1 → ⊥) → (k ≡ 2 → ⊥) → (k ≡ 6 → ⊥) → leb 1 p ≡ leb (limit s k) p
   unfolding limit

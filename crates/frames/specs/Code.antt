@@ -13,7 +13,8 @@ use Rattle.frames.specs.declared.Said.the-variants.{Goes, Stops}
 use Rattle.frames.specs.declared.Opened.{Opened}
 use Rattle.frames.specs.declared.Opened.the-variants.{Table, Fails}
 
--- what a line says, where its text stands from `at` on: its frame and where the next line begins, or the number that it meets
+-- what a line says, where its text stands from `at` on: its frame and where the next line begins, or the
+-- number that it meets
 unfoldable pub heard : (Frame → ℕ) → ℕ → Option (List ℕ) → Said
 heard r next none = Stops 1
 heard r next (some bs) =

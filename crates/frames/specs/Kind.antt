@@ -1,4 +1,4 @@
--- Document 01, 'Lines', the table of kinds: what stands after kk, and how many subterms a term has; 'Places', the digit of the first.
+-- Document 01, 'Lines', the table of kinds: what stands after kk, and how many subterms a term has.
 use Prim.Native.Nat.{ℕ}
 use mathlib.Core.Bool.{Bool, _&&_}
 use mathlib.Core.List.{List, [], _∷_}

@@ -1,6 +1,6 @@
--- Document 01, 'Lines' (Table), 'Room' and 'Numbers of refusal': the frames of a table, and the number of refusal, 2 to 5, that a
--- frame meets by what the lines before it have said. The enums and the record that the code hands about (`Frame`, `Seen`) are
--- declared in src/.
+-- Document 01, 'Lines' (Table), 'Room' and 'Numbers of refusal': the frames of a table, and the number of
+-- refusal, 2 to 5, that a frame meets by what the lines before it have said. The enums and the record that
+-- the code hands about (`Frame`, `Seen`) are declared in src/.
 use Prim.Native.Nat.{ℕ, _+_, _^_}
 use mathlib.Core.Bool.{Bool, true, false, _&&_, _||_, not}
 use mathlib.Core.List.{List}
@@ -34,7 +34,8 @@ frame-of bs =
     (Opening (getD bs 1 0) (getD bs 2 0) (getD bs 3 0))
     Wrong)))
 
--- the number that a payload is below: a definition of the table, an event of it, or a set whose bits are all events'
+-- the number that a payload is below: a definition of the table, an event of it, or a
+-- set whose bits are all events'
 unfoldable pub limit : Seen → ℕ → ℕ
 limit s k =
     choose (eqb k call) (s .definitions)
@@ -45,7 +46,8 @@ limit s k =
 unfoldable pub longest : Seen → ℕ → ℕ
 longest s k = choose (eqb k prefix) (s .depth + 1) (s .depth)
 
--- the number of refusal that a frame meets after line 1, the lowest where there are several, and 0 where it meets none
+-- the number of refusal that a frame meets after line 1, the lowest where there are
+-- several, and 0 where it meets none
 unfoldable pub refusal : Frame → Seen → ℕ
 refusal Wrong s = 2
 refusal (Opening ed dd ee) s = 2

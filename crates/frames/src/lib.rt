@@ -28,8 +28,8 @@ pub enum Frame {
     Wrong,
 }
 
-// What a line is judged by: line 1's two numbers, the definitions begun, the terms so far, how many terms the definition
-// begun still lacks, and the path length of the next of them.
+// What a line is judged by: line 1's two numbers, the definitions begun, the terms so far, how many terms the
+// definition begun still lacks, and the path length of the next of them.
 pub struct Seen {
     pub definitions: usize,
     pub events: usize,
@@ -39,7 +39,8 @@ pub struct Seen {
     pub depth: usize,
 }
 
-// What line 1 opens: a table of so many definitions and events, with the next line from `next` on, or the number of its refusal.
+// What line 1 opens: a table of so many definitions and events, with the next line from `next` on, or the
+// number of its refusal.
 pub enum Opened {
     Table {
         definitions: usize,

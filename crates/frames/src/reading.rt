@@ -55,7 +55,8 @@ pub fn read_frame(chars: &[u8]) -> Frame
 
 // The frame of a line whose first byte is a term's.
 fn read_term(chars: &[u8]) -> Frame
-    ensures { λ r. ⌜ ((bs : List ℕ) → bytes (now (chars .entry)) ≡ some bs → getD bs 0 0 ≡ 0x12 → r ≡ frame-of bs) ⌝ }
+    ensures { λ r. ⌜ ((bs : List ℕ) → bytes (now (chars .entry)) ≡ some bs → getD bs 0 0 ≡ 0x12
+        → r ≡ frame-of bs) ⌝ }
 {
     let count = chars.len() / 2;
     let kind = byte(chars, 1);

@@ -1,17 +1,19 @@
--- Runs of digits: what `run` counts at a place of a text, and the lines of a text that starts with a run. A digit is no LF, so a
--- run stays inside one line; what ends the run tells whether that line is one. Assumes nothing.
-use Prim.Native.Nat.{ℕ, zero, suc, _≤_, _<_, _-_, _+_, _*_, _%_}
-use mathlib.Core.Path.{_≡_, refl, sym, ap, _∙_}
+-- Runs of digits: what `run` counts at a place of a text, and the lines of a text that starts with
+-- a run. A digit is no LF, so a run stays inside one line; what ends the run tells whether that
+-- line is one. Assumes nothing.
+use Prim.Native.Nat.{ℕ, suc, _≤_, _<_, _-_, _+_, _*_, _%_}
+use mathlib.Core.Path.{_≡_, refl, ap, _∙_}
 use mathlib.Core.Bool.{Bool, true, false, _&&_}
 use mathlib.Core.List.{List, [], _∷_, _++_}
 use mathlib.Core.Option.{Option, none, some}
 use native.Mathlib.Omega.{arith}
 use native.Mathlib.Numerals.{add-one, one-add}
-use lib.ListN.{length, take, drop, getD, drop-of-length-le}
+use lib.ListN.{length, drop, getD, drop-of-length-le}
 use lib.Dec.{leb, ltb, eqb}
 use lib.Seq.{drop-cons}
-use borrow.Author.Tests.{le-leb, lt-leb, leb-true, leb-false, eqb-true, ne-eqb, lt-ltb, ltb-true}
-use Rattle.lines.specs.Line.{choose, digit, Raw, full, open-ended, before, lines, pair, bytes, frame, characters, LF}
+use borrow.Author.Tests.{le-leb, lt-leb, leb-true, leb-false, ne-eqb, lt-ltb, ltb-true}
+use Rattle.lines.specs.Line.{choose, digit, Raw, full, open-ended, before, lines, pair, bytes, frame}
+use Rattle.lines.specs.Line.{characters, LF}
 use Rattle.lines.specs.Code.{run, value}
 
 -- two tests that hold together
@@ -46,13 +48,15 @@ pub value-digit : (c : ℕ) → digit c < 16 → value c ≡ digit c
 unfolding digit
 value-digit c h = go (leb 48 c) (leb c 57) (leb 97 c) (leb c 102) refl refl refl refl h
   where
-    letter : (p q : Bool) → leb 97 c ≡ p → leb c 102 ≡ q → choose (p && q) (c - 87) 16 < 16 → value c ≡ choose (p && q) (c - 87) 16
+    letter : (p q : Bool) → leb 97 c ≡ p → leb c 102 ≡ q → choose (p && q) (c - 87) 16 < 16
+        → value c ≡ choose (p && q) (c - 87) 16
     letter true true e₁ e₂ h = omega (arith, leb-true 97 c e₁, leb-true c 102 e₂)
     letter true false e₁ e₂ h = absurd (omega arith)
     letter false q e₁ e₂ h = absurd (omega arith)
 
     go : (a b p q : Bool) → leb 48 c ≡ a → leb c 57 ≡ b → leb 97 c ≡ p → leb c 102 ≡ q
-        → choose (a && b) (c - 48) (choose (p && q) (c - 87) 16) < 16 → value c ≡ choose (a && b) (c - 48) (choose (p && q) (c - 87) 16)
+        → choose (a && b) (c - 48) (choose (p && q) (c - 87) 16) < 16
+        → value c ≡ choose (a && b) (c - 48) (choose (p && q) (c - 87) 16)
     go true true p q e₁ e₂ e₃ e₄ h = omega (arith, leb-true 48 c e₁, leb-true c 57 e₂)
     go true false p q e₁ e₂ e₃ e₄ h = letter p q e₃ e₄ h
     go false b p q e₁ e₂ e₃ e₄ h = letter p q e₃ e₄ h
@@ -79,7 +83,14 @@ head-of c d cs ds e = cc
 
 pub split : (s : List ℕ) → Split s
 unfolding run
-split [] = record { digits = []; rest = []; whole = refl; are-digits = no-more; counted = refl; ends = λ c cs e. absurd (nil-cons c cs e) }
+split [] = record {
+  digits = [];
+  rest = [];
+  whole = refl;
+  are-digits = no-more;
+  counted = refl;
+  ends = λ c cs e. absurd (nil-cons c cs e);
+}
 split (d ∷ ds) = go (leb 16 (digit d)) refl (split ds)
   where
     go : (b : Bool) → leb 16 (digit d) ≡ b → Split ds → Split (d ∷ ds)
@@ -132,7 +143,8 @@ starts-at x (full cs ∷ ls) = (cs, (full (x ∷ cs), ls, refl, refl))
 starts-at x (open-ended cs ∷ ls) = (cs, (open-ended (x ∷ cs), ls, refl, refl))
 
 -- a run and a character that is no LF stand in one line
-pub lines-start : (ds : List ℕ) (x : ℕ) (rest : List ℕ) → Digits ds → eqb x LF ≡ false → (ys : List ℕ) × Starts (lines (ds ++ x ∷ rest)) (ds ++ x ∷ ys)
+pub lines-start : (ds : List ℕ) (x : ℕ) (rest : List ℕ) → Digits ds → eqb x LF ≡ false
+    → (ys : List ℕ) × Starts (lines (ds ++ x ∷ rest)) (ds ++ x ∷ ys)
 unfolding lines
 lines-start [] x rest no-more e = simp e (starts-at x (lines rest))
 lines-start (c ∷ cs) x rest (one-more h t) e =
@@ -140,7 +152,8 @@ lines-start (c ∷ cs) x rest (one-more h t) e =
     (r .0, simp (digit-no-LF c h) (starts-before c (lines (cs ++ x ∷ rest)) (cs ++ x ∷ r .0) (r .1)))
 
 -- a pair is a byte only where both are digits
-pub pair-some : (h l : ℕ) (o : Option (List ℕ)) (bs : List ℕ) → pair h l o ≡ some bs → (h < 16) × (l < 16) × ((cs : List ℕ) × (o ≡ some cs) × (bs ≡ (h * 16 + l) ∷ cs))
+pub pair-some : (h l : ℕ) (o : Option (List ℕ)) (bs : List ℕ) → pair h l o ≡ some bs
+    → (h < 16) × (l < 16) × ((cs : List ℕ) × (o ≡ some cs) × (bs ≡ (h * 16 + l) ∷ cs))
 unfolding pair
 pair-some h l none bs e = let z : _≡_ {A = ℕ} 0 1 = cc in absurd (omega arith)
 pair-some h l (some cs) bs e = go (ltb h 16) (ltb l 16) refl refl e
@@ -173,7 +186,8 @@ digits-inside [] x ys (one-more h t) = h
 digits-inside (d ∷ ds) x ys (one-more h t) = digits-inside ds x ys t
 
 -- a line in which a character is no digit is no line
-pub frame-broken : (l : Raw) (ds : List ℕ) (x : ℕ) (ys : List ℕ) → characters l ≡ ds ++ x ∷ ys → 16 ≤ digit x → frame l ≡ none
+pub frame-broken : (l : Raw) (ds : List ℕ) (x : ℕ) (ys : List ℕ) → characters l ≡ ds ++ x ∷ ys → 16 ≤ digit x
+    → frame l ≡ none
 frame-broken l ds x ys e h = go (frame l) refl
   where
     go : (o : Option (List ℕ)) → frame l ≡ o → o ≡ none

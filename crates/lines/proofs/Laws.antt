@@ -1,8 +1,9 @@
--- What a caller may rely on: what `answer` is at each place where the scan of a run of digits can stop, what a found line says of
--- the text, and that bytes and numbers are read as `bytes` and `number` have them. Assumes nothing.
-use Prim.Native.Nat.{ℕ, zero, suc, _≤_, _<_, _-_, _+_, _*_, _/_, _%_, _^_}
+-- What a caller may rely on: what `answer` is at each place where the scan of a run of digits can
+-- stop, what a found line says of the text, and that bytes and numbers are read as `bytes` and
+-- `number` have them. Assumes nothing.
+use Prim.Native.Nat.{ℕ, zero, suc, _≤_, _<_, _-_, _+_, _*_, _/_, _%_}
 use mathlib.Core.Path.{_≡_, refl, sym, ap, _∙_}
-use mathlib.Core.Bool.{Bool, true, false, _&&_}
+use mathlib.Core.Bool.{Bool, true, false}
 use mathlib.Core.List.{List, [], _∷_, _++_, append-nil}
 use mathlib.Core.Option.{Option, none, some}
 use mathlib.Core.Logic.{_⊎_, ⊎-elim}
@@ -10,15 +11,17 @@ use denote.Enum.Declared.{tagOf, declared}
 use native.Mathlib.Omega.{arith}
 use native.Mathlib.Nat.{zero-add, suc-add}
 use lib.ListN.{length, take, drop, getD, length-append, length-drop, drop-of-length-le}
-use lib.Dec.{leb, ltb, eqb}
+use lib.Dec.{leb, eqb}
 use lib.Seq.{drop-cons, drop-append-seam, drop-append-add, take-append-seam, drop-drop, drop-length, take-nil}
-use borrow.Author.Tests.{le-leb, lt-leb, leb-true, leb-false, eqb-true, eq-eqb, ne-eqb, lt-ltb, ltb-true}
-use Rattle.lines.specs.Line.{choose, digit, Raw, full, open-ended, before, lines, pair, bytes, frame, characters, LF, seen, answer, number-from}
+use borrow.Author.Tests.{le-leb, lt-leb, leb-true, leb-false, eqb-true, ne-eqb, lt-ltb}
+use Rattle.lines.specs.Line.{choose, digit, Raw, full, open-ended, before, lines, pair, bytes, frame}
+use Rattle.lines.specs.Line.{characters, LF, seen, answer, number-from}
 use Rattle.lines.specs.Code.{run, part, byteAt, byteOf, numberOf}
 use Rattle.lines.specs.declared.Line.{Line}
 use Rattle.lines.specs.declared.Line.the-variants.{Found, NoLine, End}
 use Rattle.lines.proofs.Line.{enum}
-use Rattle.lines.proofs.Digits.{Digits, Split, split, lines-full, lines-open, lines-start, frame-broken, bytes-even, bytes-odd, pair-some, value-digit}
+use Rattle.lines.proofs.Digits.{Digits, Split, split, lines-full, lines-open, lines-start}
+use Rattle.lines.proofs.Digits.{frame-broken, bytes-even, bytes-odd, pair-some, value-digit}
 
 -- at the end of the text there is no line left
 pub answer-end : (s : List ℕ) (at : ℕ) → length s ≤ at → answer at (lines (drop at s)) ≡ End
@@ -26,12 +29,14 @@ unfolding answer lines
 answer-end s at h = rw (drop-of-length-le s h)
 
 -- by what the run of digits is and what stands behind it
-answer-full : (at : ℕ) (ds rest : List ℕ) (bs : List ℕ) → Digits ds → 0 < length ds → bytes ds ≡ some bs → answer at (lines (ds ++ LF ∷ rest)) ≡ Found (at + length ds) (at + length ds + 1)
+answer-full : (at : ℕ) (ds rest : List ℕ) (bs : List ℕ) → Digits ds → 0 < length ds → bytes ds ≡ some bs
+    → answer at (lines (ds ++ LF ∷ rest)) ≡ Found (at + length ds) (at + length ds + 1)
 unfolding answer seen characters frame
 answer-full at [] rest bs t h e = absurd (omega arith)
 answer-full at (c ∷ cs) rest bs t h e = rw (lines-full (c ∷ cs) rest t, e)
 
-answer-bad : (at : ℕ) (ds rest : List ℕ) → Digits ds → frame (full ds) ≡ none → answer at (lines (ds ++ LF ∷ rest)) ≡ NoLine
+answer-bad : (at : ℕ) (ds rest : List ℕ) → Digits ds → frame (full ds) ≡ none
+    → answer at (lines (ds ++ LF ∷ rest)) ≡ NoLine
 unfolding answer seen characters
 answer-bad at ds rest t e = rw (lines-full ds rest t, e)
 
@@ -40,7 +45,8 @@ unfolding answer seen characters frame
 answer-open at [] t h = absurd (omega arith)
 answer-open at (c ∷ cs) t h = rw (lines-open c cs t)
 
-answer-other : (at : ℕ) (ds : List ℕ) (x : ℕ) (rest : List ℕ) → Digits ds → eqb x LF ≡ false → 16 ≤ digit x → answer at (lines (ds ++ x ∷ rest)) ≡ NoLine
+answer-other : (at : ℕ) (ds : List ℕ) (x : ℕ) (rest : List ℕ) → Digits ds → eqb x LF ≡ false → 16 ≤ digit x
+    → answer at (lines (ds ++ x ∷ rest)) ≡ NoLine
 unfolding answer seen
 answer-other at ds x rest t e h =
     let r = lines-start ds x rest t e in
@@ -56,10 +62,6 @@ unfolding frame
 frame-none [] h = refl
 frame-none (c ∷ cs) h = h
 
-positive : (k : ℕ) → (k ≡ 0 → ⊥) → 0 < k
-positive zero h = absurd (h refl)
-positive (suc k) h = omega arith
-
 -- the text from `at` on: its run of digits, and what stands at the run's end
 module _ (s : List ℕ) (at e : ℕ) (inside : at < length s) (end : e ≡ at + run (drop at s)) where
   cut : Split (drop at s)
@@ -68,7 +70,8 @@ module _ (s : List ℕ) (at e : ℕ) (inside : at < length s) (end : e ≡ at + 
   -- what is left behind the run
   rest-is : cut .rest ≡ drop e s
   rest-is =
-      let q : drop (length (cut .digits)) (drop at s) ≡ cut .rest = rw (cut .whole) (drop-append-seam (cut .digits) (cut .rest)) in
+      let q : drop (length (cut .digits)) (drop at s) ≡ cut .rest =
+      rw (cut .whole) (drop-append-seam (cut .digits) (cut .rest)) in
       let n : at + length (cut .digits) ≡ e = omega (arith, cut .counted) in
       sym q ∙ drop-drop (length (cut .digits)) at s ∙ ap (λ (k : ℕ). drop k s) n
 
@@ -76,7 +79,8 @@ module _ (s : List ℕ) (at e : ℕ) (inside : at < length s) (end : e ≡ at + 
   answer-unended h =
       let none-left : cut .rest ≡ [] = rest-is ∙ drop-of-length-le s h in
       let whole : drop at s ≡ cut .digits = cut .whole ∙ rw none-left (append-nil (cut .digits)) in
-      rw whole (answer-open at (cut .digits) (cut .are-digits) (omega (arith, length-drop at s, ap length whole)))
+      let some-digits : 0 < length (cut .digits) = omega (arith, length-drop at s, ap length whole) in
+      rw whole (answer-open at (cut .digits) (cut .are-digits) some-digits)
 
   module _ (more : e < length s) where
     next-is : cut .rest ≡ getD s e 0 ∷ drop (suc e) s
@@ -86,7 +90,9 @@ module _ (s : List ℕ) (at e : ℕ) (inside : at < length s) (end : e ≡ at + 
     whole-is = cut .whole ∙ ap (λ (l : List ℕ). cut .digits ++ l) next-is
 
     pub answer-no-digit : (getD s e 0 ≡ LF → ⊥) → answer at (lines (drop at s)) ≡ NoLine
-    answer-no-digit h = rw whole-is (answer-other at (cut .digits) _ _ (cut .are-digits) (ne-eqb _ LF h) (cut .ends _ _ next-is))
+    answer-no-digit h =
+        rw whole-is
+        (answer-other at (cut .digits) _ _ (cut .are-digits) (ne-eqb _ LF h) (cut .ends _ _ next-is))
 
     module _ (feed : getD s e 0 ≡ LF) where
       line-is : drop at s ≡ cut .digits ++ LF ∷ drop (suc e) s
@@ -96,24 +102,27 @@ module _ (s : List ℕ) (at e : ℕ) (inside : at < length s) (end : e ≡ at + 
       count = omega (arith, cut .counted)
 
       pub answer-empty : e - at ≡ 0 → answer at (lines (drop at s)) ≡ NoLine
-      answer-empty h = rw line-is (answer-bad at (cut .digits) _ (cut .are-digits) (frame-empty (cut .digits) (count ∙ h)))
+      answer-empty h =
+          rw line-is (answer-bad at (cut .digits) _ (cut .are-digits) (frame-empty (cut .digits) (count ∙ h)))
 
       pub answer-odd : ((e - at) % 2 ≡ 0 → ⊥) → answer at (lines (drop at s)) ≡ NoLine
-      answer-odd h = rw line-is (answer-bad at (cut .digits) _ (cut .are-digits)
-          (frame-none (cut .digits) (bytes-odd (cut .digits) (λ q. h (ap (λ (n : ℕ). n % 2) (sym count) ∙ q)))))
+      answer-odd h =
+          let no-bytes = bytes-odd (cut .digits) (λ q. h (ap (λ (n : ℕ). n % 2) (sym count) ∙ q)) in
+          rw line-is (answer-bad at (cut .digits) _ (cut .are-digits) (frame-none (cut .digits) no-bytes))
 
       pub answer-found : (e - at ≡ 0 → ⊥) → (e - at) % 2 ≡ 0 → answer at (lines (drop at s)) ≡ Found e (e + 1)
       answer-found z h =
           let b = bytes-even (cut .digits) (cut .are-digits) (ap (λ (n : ℕ). n % 2) count ∙ h) in
           let n : at + length (cut .digits) ≡ e = omega (arith, cut .counted) in
-          let p : 0 < length (cut .digits) = positive (length (cut .digits)) (λ q. z (sym count ∙ q)) in
+          let p : 0 < length (cut .digits) = omega (arith, count) in
           rw (line-is, answer-full at (cut .digits) _ (b .0) (cut .are-digits) p (b .1), n)
 
 -- the first line of a text, taken off it
 abbrev pub First : List ℕ → List ℕ → List Raw → Type 0
 First t cs ls = (rest : List ℕ) × (t ≡ cs ++ LF ∷ rest) × (ls ≡ lines rest)
 
-before-full : (c : ℕ) (l : List Raw) (cs : List ℕ) (ls : List Raw) → before c l ≡ full cs ∷ ls → (ds : List ℕ) × (cs ≡ c ∷ ds) × (l ≡ full ds ∷ ls)
+before-full : (c : ℕ) (l : List Raw) (cs : List ℕ) (ls : List Raw) → before c l ≡ full cs ∷ ls
+    → (ds : List ℕ) × (cs ≡ c ∷ ds) × (l ≡ full ds ∷ ls)
 unfolding before
 before-full c [] cs ls e = let z : _≡_ {A = ℕ} 0 1 = cc in absurd (omega arith)
 before-full c (full ds ∷ l) cs ls e = (ds, cc, cc)
@@ -135,8 +144,8 @@ lines-first (c ∷ t) cs ls e = go (eqb c LF) refl e (λ ds q. lines-first t ds 
         let r = further (b .0) (b .2) in
         (r .0, ap (λ (l : List ℕ). c ∷ l) (r .1) ∙ ap (λ (l : List ℕ). l ++ LF ∷ r .0) (sym (b .1)), r .2)
 
--- what a found line says of its text: its characters are the part from `at` to e, they stand for bytes, and the lines behind it
--- are those of the text from n on
+-- what a found line says of its text: its characters are the part from `at` to e, they stand for bytes, and
+-- the lines behind it are those of the text from n on
 pub record IsLine (s : List ℕ) (at e n : ℕ) : Type 0 where
   pub held : List ℕ
   pub first : lines (drop at s) ≡ full (part s at e) ∷ lines (drop n s)
@@ -146,7 +155,8 @@ pub record IsLine (s : List ℕ) (at e n : ℕ) : Type 0 where
   pub behind : n ≡ e + 1
   pub within : n ≤ length s
 
--- a text that has a line from `at` on: the line's characters are its part, and what follows stands behind the LF
+-- a text that has a line from `at` on: the line's characters are its part, and what
+-- follows stands behind the LF
 module _ (s cs rest : List ℕ) (at : ℕ) (e : drop at s ≡ cs ++ LF ∷ rest) where
   long : length s - at ≡ length cs + suc (length rest)
   long = sym (length-drop at s) ∙ ap length e ∙ length-append cs (LF ∷ rest)
@@ -156,14 +166,17 @@ module _ (s cs rest : List ℕ) (at : ℕ) (e : drop at s ≡ cs ++ LF ∷ rest)
   part-is =
       let n : length s - at ≡ length cs + suc (length rest) = long in
       let m : at + length cs - at ≡ length cs = omega arith in
-      simp (le-leb at (at + length cs) (omega arith), le-leb (at + length cs) (length s) (omega arith), m, e) (take-append-seam cs (LF ∷ rest))
+      let from = le-leb at (at + length cs) (omega arith) in
+      let to = le-leb (at + length cs) (length s) (omega arith) in
+      simp (from, to, m, e) (take-append-seam cs (LF ∷ rest))
 
   rest-behind : drop (at + length cs + 1) s ≡ rest
   rest-behind =
       let m : at + length cs + 1 ≡ at + (length cs + 1) = omega arith in
       rw (m, ← drop-drop (length cs + 1) at s, e) (drop-append-add cs (LF ∷ rest) 1)
 
-found-line : (s : List ℕ) (at e n : ℕ) (l : Raw) (ls : List Raw) → lines (drop at s) ≡ l ∷ ls → seen at (characters l) (frame l) ≡ Found e n → IsLine s at e n
+found-line : (s : List ℕ) (at e n : ℕ) (l : Raw) (ls : List Raw) → lines (drop at s) ≡ l ∷ ls
+    → seen at (characters l) (frame l) ≡ Found e n → IsLine s at e n
 unfolding seen characters frame
 found-line s at e n (open-ended cs) ls q h = let z : _≡_ {A = ℕ} 0 1 = cc in absurd (omega arith)
 found-line s at e n (full []) ls q h = let z : _≡_ {A = ℕ} 0 1 = cc in absurd (omega arith)
@@ -208,7 +221,8 @@ module _ (s : List ℕ) (at : ℕ) where
   unfolding answer seen
   not-a-line h = go (lines (drop at s)) refl h
     where
-      none-of : (l : Raw) (ls : List Raw) (o : Option (List ℕ)) → lines (drop at s) ≡ l ∷ ls → frame l ≡ o → seen at (characters l) o ≡ NoLine → NotALine s at
+      none-of : (l : Raw) (ls : List Raw) (o : Option (List ℕ)) → lines (drop at s) ≡ l ∷ ls → frame l ≡ o
+          → seen at (characters l) o ≡ NoLine → NotALine s at
       none-of l ls none q f h = record { line = l; others = ls; first = q; broken = f }
       none-of l ls (some bs) q f h = let z : _≡_ {A = ℕ} 0 1 = cc in absurd (omega arith)
 
@@ -229,7 +243,8 @@ module _ (s : List ℕ) (at : ℕ) where
       go (l ∷ ls) q h = absurd (not-end (characters l) (frame l) h)
 
 -- a line by another variant's tag is not found
-pub not-found : (l : Line) → (tagOf (declared enum) l ≡ 1) ⊎ (tagOf (declared enum) l ≡ 2) → (e n : ℕ) → l ≡ Found e n → ⊥
+pub not-found : (l : Line) → (tagOf (declared enum) l ≡ 1) ⊎ (tagOf (declared enum) l ≡ 2) → (e n : ℕ)
+    → l ≡ Found e n → ⊥
 not-found l k e n q =
     let z = ap (tagOf (declared enum)) q in
     ⊎-elim (λ t. omega arith) (λ t. omega arith) k
@@ -246,7 +261,9 @@ module _ (s : List ℕ) (a e : ℕ) where
 
   pub part-past : a ≤ e → length s < e → take (length s - length s) (drop (length s) s) ≡ part s a e
   unfolding part
-  part-past h k = rw (drop-length s, take-nil {A = ℕ} (length s - length s)) (simp (le-leb a e h, lt-leb e (length s) k))
+  part-past h k =
+      rw (drop-length s, take-nil {A = ℕ} (length s - length s))
+      (simp (le-leb a e h, lt-leb e (length s) k))
 
 -- byte number k, where the characters have it and where they do not
 module _ (cs : List ℕ) (k : ℕ) where
@@ -260,7 +277,9 @@ module _ (cs : List ℕ) (k : ℕ) where
 
 -- the number of the characters from 2 k on takes in one byte more
 pub number-more : (cs : List ℕ) (k n : ℕ) → k < length cs / 2
-    → numberOf n (drop (2 * k) cs) ≡ numberOf (n % 72057594037927936 * 256 + byteOf (getD cs (2 * k) 0) (getD cs (2 * k + 1) 0)) (drop (2 * (k + 1)) cs)
+    → numberOf n (drop (2 * k) cs)
+    ≡ numberOf (n % 72057594037927936 * 256 + byteOf (getD cs (2 * k) 0) (getD cs (2 * k + 1) 0))
+    (drop (2 * (k + 1)) cs)
 unfolding numberOf
 number-more cs k n h =
     let m : 2 * (k + 1) ≡ suc (suc (2 * k)) = omega arith in
@@ -297,11 +316,16 @@ unfolding byteAt
 byte-later h l cs k =
     let n : 2 * suc k ≡ suc (suc (2 * k)) = omega arith in
     let m : 2 * suc k + 1 ≡ suc (suc (2 * k + 1)) = omega arith in
-    rw (m, n) (ap (λ (b : Bool). choose b 0 (byteOf (getD cs (2 * k) 0) (getD cs (2 * k + 1) 0))) (go (leb (length cs / 2) k) refl))
+    let byte = byteOf (getD cs (2 * k) 0) (getD cs (2 * k + 1) 0) in
+    rw (m, n) (ap (λ (b : Bool). choose b 0 byte) (go (leb (length cs / 2) k) refl))
   where
     go : (b : Bool) → leb (length cs / 2) k ≡ b → leb (suc (suc (length cs)) / 2) (suc k) ≡ b
-    go true e = let q = leb-true (length cs / 2) k e in le-leb (suc (suc (length cs)) / 2) (suc k) (omega arith)
-    go false e = let q = leb-false (length cs / 2) k e in lt-leb (suc (suc (length cs)) / 2) (suc k) (omega arith)
+    go true e =
+        let q = leb-true (length cs / 2) k e in
+        le-leb (suc (suc (length cs)) / 2) (suc k) (omega arith)
+    go false e =
+        let q = leb-false (length cs / 2) k e in
+        lt-leb (suc (suc (length cs)) / 2) (suc k) (omega arith)
 
 pub byte-is : (cs bs : List ℕ) (k : ℕ) → bytes cs ≡ some bs → byteAt cs k ≡ getD bs k 0
 unfolding bytes byteAt
@@ -314,34 +338,27 @@ byte-is (h ∷ l ∷ cs) bs (suc k) e =
     let r = pair-some (digit h) (digit l) (bytes cs) bs e in
     byte-later h l cs k ∙ rw (r .2 .2) (byte-is cs (r .2 .0) k (r .2 .1))
 
--- the bytes from number k on are those of the characters from 2 k on
-pub bytes-drop : (cs bs : List ℕ) (k : ℕ) → bytes cs ≡ some bs → bytes (drop (2 * k) cs) ≡ some (drop k bs)
-unfolding bytes
-bytes-drop cs bs zero e = e
-bytes-drop [] bs (suc k) e =
-    let n : bs ≡ [] = cc in
-    let m : 2 * suc k ≡ suc (suc (2 * k)) = omega arith in
-    rw (m, n)
-bytes-drop (h ∷ []) bs (suc k) e = let z : _≡_ {A = ℕ} 0 1 = cc in absurd (omega arith)
-bytes-drop (h ∷ l ∷ cs) bs (suc k) e =
-    let r = pair-some (digit h) (digit l) (bytes cs) bs e in
-    let m : 2 * suc k ≡ suc (suc (2 * k)) = omega arith in
-    rw (m, r .2 .2) (bytes-drop cs (r .2 .0) k (r .2 .1))
-
--- the first k bytes are those of the first 2 k characters
-pub bytes-take : (cs bs : List ℕ) (k : ℕ) → bytes cs ≡ some bs → bytes (take (2 * k) cs) ≡ some (take k bs)
+-- the first k bytes are those of the first 2 k characters, and the bytes from number k on those of the rest
+bytes-split : (cs bs : List ℕ) (k : ℕ) → bytes cs ≡ some bs
+    → (bytes (take (2 * k) cs) ≡ some (take k bs)) × (bytes (drop (2 * k) cs) ≡ some (drop k bs))
 unfolding bytes pair
-bytes-take cs bs zero e = refl
-bytes-take [] bs (suc k) e =
+bytes-split cs bs zero e = (refl, e)
+bytes-split [] bs (suc k) e =
     let n : bs ≡ [] = cc in
     let m : 2 * suc k ≡ suc (suc (2 * k)) = omega arith in
-    rw (m, n)
-bytes-take (h ∷ []) bs (suc k) e = let z : _≡_ {A = ℕ} 0 1 = cc in absurd (omega arith)
-bytes-take (h ∷ l ∷ cs) bs (suc k) e =
+    rw (m, n) (refl, refl)
+bytes-split (h ∷ []) bs (suc k) e = let z : _≡_ {A = ℕ} 0 1 = cc in absurd (omega arith)
+bytes-split (h ∷ l ∷ cs) bs (suc k) e =
     let r = pair-some (digit h) (digit l) (bytes cs) bs e in
     let m : 2 * suc k ≡ suc (suc (2 * k)) = omega arith in
-    let t = bytes-take cs (r .2 .0) k (r .2 .1) in
-    rw (m, r .2 .2) (simp (t, lt-ltb (digit h) 16 (r .0), lt-ltb (digit l) 16 (r .1)))
+    let s = bytes-split cs (r .2 .0) k (r .2 .1) in
+    rw (m, r .2 .2) (simp (s .0, lt-ltb (digit h) 16 (r .0), lt-ltb (digit l) 16 (r .1)), s .1)
+
+pub bytes-take : (cs bs : List ℕ) (k : ℕ) → bytes cs ≡ some bs → bytes (take (2 * k) cs) ≡ some (take k bs)
+bytes-take cs bs k e = bytes-split cs bs k e .0
+
+pub bytes-drop : (cs bs : List ℕ) (k : ℕ) → bytes cs ≡ some bs → bytes (drop (2 * k) cs) ≡ some (drop k bs)
+bytes-drop cs bs k e = bytes-split cs bs k e .1
 
 -- the largest number that k more bytes can make of n
 most : ℕ → ℕ → ℕ
@@ -364,18 +381,21 @@ most-longer zero d n = simp zero-add (most-above d n)
 most-longer (suc k) d n = simp suc-add (most-longer k d (n * 256 + 255))
 
 -- a number of up to eight bytes is what `number` reads
-number-fits : (cs bs : List ℕ) (n : ℕ) → bytes cs ≡ some bs → most n (length bs) < 18446744073709551616 → numberOf n cs ≡ number-from n bs
+number-fits : (cs bs : List ℕ) (n : ℕ) → bytes cs ≡ some bs → most n (length bs) < 18446744073709551616
+    → numberOf n cs ≡ number-from n bs
 unfolding bytes numberOf number-from most
 number-fits [] bs n e h = let q : bs ≡ [] = cc in rw q
 number-fits (a ∷ []) bs n e h = let z : _≡_ {A = ℕ} 0 1 = cc in absurd (omega arith)
 number-fits (a ∷ b ∷ cs) bs n e h =
     let r = pair-some (digit a) (digit b) (bytes cs) bs e in
-    let k : most (n * 256 + 255) (length (r .2 .0)) < 18446744073709551616 = rw (r .2 .2) at h in
-    let u : n * 256 + 255 ≤ most (n * 256 + 255) (length (r .2 .0)) = most-above (length (r .2 .0)) (n * 256 + 255) in
-    let low : n % 72057594037927936 * 256 + byteOf a b ≡ n * 256 + (digit a * 16 + digit b) =
+    let left = length (r .2 .0) in
+    let next = n * 256 + (digit a * 16 + digit b) in
+    let fits : most (n * 256 + 255) left < 18446744073709551616 = rw (r .2 .2) at h in
+    let above : n * 256 + 255 ≤ most (n * 256 + 255) left = most-above left (n * 256 + 255) in
+    let read : n % 72057594037927936 * 256 + byteOf a b ≡ next =
     rw (byte-digits a b (r .0) (r .1)) (omega arith) in
-    let m : most (n * 256 + (digit a * 16 + digit b)) (length (r .2 .0)) ≤ most (n * 256 + 255) (length (r .2 .0)) = most-mono (length (r .2 .0)) (omega arith) in
-    rw (r .2 .2, low) (number-fits cs (r .2 .0) (n * 256 + (digit a * 16 + digit b)) (r .2 .1) (omega arith))
+    let below : most next left ≤ most (n * 256 + 255) left = most-mono left (omega arith) in
+    rw (r .2 .2, read) (number-fits cs (r .2 .0) next (r .2 .1) (omega arith))
 
 pub number-is : (cs bs : List ℕ) → bytes cs ≡ some bs → length bs ≤ 8 → numberOf 0 cs ≡ number-from 0 bs
 unfolding most

@@ -1,5 +1,6 @@
--- A text of frames reads back as those frames, and no other text does. A digit and its character determine each other,
--- so bytes and their hexadecimal do, and with them a frame and its line; the text follows line by line. Assumes nothing.
+-- A text of frames reads back as those frames, and no other text does. A digit and its character determine
+-- each other, so bytes and their hexadecimal do, and with them a frame and its line; the text follows line by
+-- line. Assumes nothing.
 use Prim.Native.Nat.{ℕ, _<_, _-_, _+_, _*_, _/_, _%_}
 use mathlib.Core.Path.{_≡_, refl, ap, _∙_}
 use mathlib.Core.Bool.{Bool, true, false, _&&_}
@@ -27,7 +28,9 @@ digit-of-character d h = go (ltb d 10) refl
         let l = ltb-false d 10 e in
         let c : ℕ = 87 + d in
         let no-decimal = lt-leb c 57 (omega arith) in
-        simp (le-leb 48 c (omega arith), no-decimal, le-leb 97 c (omega arith), le-leb c 102 (omega arith)) (omega arith)
+        let letter : leb 97 c && leb c 102 ≡ true =
+        simp (le-leb 97 c (omega arith), le-leb c 102 (omega arith)) in
+        simp (le-leb 48 c (omega arith), no-decimal, letter) (omega arith)
 
 -- a character that is a digit is that digit's
 character-of-digit : (c : ℕ) → digit c < 16 → character (digit c) ≡ c
@@ -35,7 +38,8 @@ unfolding digit character
 character-of-digit c h = go (leb 48 c && leb c 57) (leb 97 c && leb c 102) refl refl h
   where
     go : (p q : Bool) → leb 48 c && leb c 57 ≡ p → leb 97 c && leb c 102 ≡ q
-        → choose p (c - 48) (choose q (c - 87) 16) < 16 → character (choose p (c - 48) (choose q (c - 87) 16)) ≡ c
+        → choose p (c - 48) (choose q (c - 87) 16) < 16
+        → character (choose p (c - 48) (choose q (c - 87) 16)) ≡ c
     go true q e f h =
         let i = both (leb 48 c) (leb c 57) e in
         let l = leb-true 48 c (i .0) in

@@ -1,4 +1,5 @@
--- What the functions on characters compute whatever the characters are. `proofs/Laws.antt` shows what it is where they are a line's.
+-- What the functions on characters compute whatever the characters are. `proofs/Laws.antt` shows what it is
+-- where they are a line's.
 use Prim.Native.Nat.{ℕ, suc, _+_, _-_, _*_, _/_, _%_}
 use mathlib.Core.List.{List, [], _∷_}
 use mathlib.Core.Bool.{_&&_}

@@ -1,5 +1,5 @@
--- Document 01, 'Lines': text is lines of hexadecimal, one frame a line: digits 0-9 a-f, an even count, at least two, LF after
--- every line; numbers of several bytes are high byte first.
+-- Document 01, 'Lines': text is lines of hexadecimal, one frame a line: digits 0-9 a-f, an even count, at
+-- least two, LF after every line; numbers of several bytes are high byte first.
 use Prim.Native.Nat.{ℕ, _+_, _-_, _*_, _/_, _%_, _<_}
 use mathlib.Core.Bool.{Bool, true, false, _&&_}
 use mathlib.Core.List.{List, [], _∷_, _++_}
@@ -93,8 +93,8 @@ pub data Frames : List (List ℕ) → Type 0 where
   no-frames : Frames []
   frame-first : {b : ℕ} {bs : List ℕ} {fs : List (List ℕ)} → Bytes (b ∷ bs) → Frames fs → Frames ((b ∷ bs) ∷ fs)
 
--- the answer for the first of a text's lines, where the text stands from `at` on: where its characters end and where the next
--- line begins, or that it is none (refusal 1), or that there is no line left
+-- the answer for the first of a text's lines, where the text stands from `at` on: where its characters end
+-- and where the next line begins, or that it is none (refusal 1), or that there is no line left
 unfoldable pub seen : ℕ → List ℕ → Option (List ℕ) → Line
 seen at cs none = NoLine
 seen at cs (some bs) = Found (at + length cs) (at + length cs + 1)
@@ -103,7 +103,8 @@ unfoldable pub answer : ℕ → List Raw → Line
 answer at [] = End
 answer at (l ∷ ls) = seen at (characters l) (frame l)
 
--- the paper's number of each answer that is no line, where a line is wanted: 1 for no line, 2 for a text that ends early
+-- the paper's number of each answer that is no line, where a line is wanted: 1 for no line,
+-- 2 for a text that ends early
 unfoldable pub refusal : Line → ℕ
 refusal (Found e n) = 0
 refusal NoLine = 1

@@ -1,8 +1,8 @@
 // Lines of hexadecimal: where the next line of a text ends, and the bytes that its digits stand for.
 // It relies on nothing; every reader of a text above stands on it.
 ghost use mathlib.Core.Path.{_≡_};
-ghost use Prim.Native.Nat.{ℕ, _+_, _*_, _-_, _≤_, _<_};
-ghost use lib.ListN.{length, take, drop, getD};
+ghost use Prim.Native.Nat.{_+_, _≤_};
+ghost use lib.ListN.{length, drop};
 ghost use Rattle.lines.specs.Line.{digit, lines, answer, refusal};
 ghost use Rattle.lines.specs.Code.{run, part, value, byteOf, byteAt, numberOf};
 
@@ -10,8 +10,8 @@ const LF: u8 = 10;
 
 const LOW_56_BITS: u64 = 72057594037927936;
 
-// What stands at a cursor: a line, whose characters run from the cursor up to `end`, with the next line from `next` on;
-// something that is no line; or the end of the text.
+// What stands at a cursor: a line, whose characters run from the cursor up to `end`, with the next line from
+// `next` on; something that is no line; or the end of the text.
 pub enum Line {
     Found { end: usize, next: usize },
     NoLine,

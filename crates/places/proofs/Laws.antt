@@ -30,8 +30,10 @@ use Rattle.places.specs.declared.Literal.the-variants.{Left, Own, Event}
 use Rattle.places.specs.declared.Placed.{Placed}
 use Rattle.places.specs.declared.Placed.the-variants.{At, Nowhere}
 use Rattle.places.proofs.Sides.{Side, only, first, second, by-number, path-root, term-root, literal-root}
-use Rattle.places.proofs.Sides.{side-first, side-inside, side-at, side-literal, side-shallow, prefix-inside}
-use Rattle.places.proofs.Ways.{look-in, step-only, step-first, step-second, descended-here, descended-step}
+use Rattle.places.proofs.Sides.{side-first, side-inside, side-at, side-literal, side-shallow}
+use Rattle.places.proofs.Sides.{prefix-inside}
+use Rattle.places.proofs.Ways.{look-in, step-only, step-first, step-second, descended-here}
+use Rattle.places.proofs.Ways.{descended-step}
 use Rattle.places.proofs.Literals.{Places}
 
 -- literals numbered from another start

@@ -1,5 +1,5 @@
--- The path of each kind of literal, from where the way to its term ends, and the answer that stands for it.
--- Assumes nothing.
+-- The path of each kind of literal, from where the way to its term ends, and the answer that
+-- stands for it. Assumes nothing.
 use Prim.Native.Nat.{ℕ, zero, suc, _+_, _-_, _≤_}
 use mathlib.Core.Path.{_≡_, refl, ap, _∙_}
 use mathlib.Core.Bool.{Bool, true, false}
@@ -15,7 +15,8 @@ use Rattle.lines.specs.Line.{choose}
 use Rattle.frames.specs.Kind.{subterms, prefix}
 use Rattle.tables.proofs.Kept.{sets-snoc}
 use Rattle.places.specs.Code.{Columns, look, next, digit, below, descended, reached, digits}
-use Rattle.places.specs.Code.{path-of, with-event, event-of, literal-path, literal-definition, told, placed, answer}
+use Rattle.places.specs.Code.{path-of, with-event, event-of, literal-path, literal-definition, told}
+use Rattle.places.specs.Code.{placed, answer}
 use Rattle.places.specs.declared.Literal.{Literal}
 use Rattle.places.specs.declared.Literal.the-variants.{Left, Own, Event}
 use Rattle.places.specs.declared.Placed.{Placed}
@@ -31,7 +32,8 @@ unfolding below
 below-short x none w f h e = let z : _≡_ {A = ℕ} 0 1 = cc in absurd (omega arith)
 below-short x (some v) w f h e = let same : w ≡ x ∷ v = cc in omega (arith, ap length same, h v refl)
 
-descended-short : (f : ℕ) (ks xs : List ℕ) (i j : ℕ) (w : List ℕ) → descended f ks xs i j ≡ some w → length w ≤ f
+descended-short : (f : ℕ) (ks xs : List ℕ) (i j : ℕ) (w : List ℕ) → descended f ks xs i j ≡ some w
+    → length w ≤ f
 unfolding descended
 descended-short zero ks xs i j w e = go (eqb i j) e
   where

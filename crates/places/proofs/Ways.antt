@@ -111,7 +111,8 @@ module _ (d : ℕ) (p : List ℕ) (f : ℕ) (ks xs : List ℕ) (i j : ℕ) where
           go (some w) h = let z : _≡_ {A = ℕ} 0 1 = cc in absurd (omega arith)
 
       pub way-down : (q : List ℕ) (r : Reached) (e : ℕ) → r ≡ Ends e
-          → Leaves (d + 1) p (descended g ks xs m j) r q → Leaves d p (descended f ks xs i j) (Ends e) (set q d x)
+          → Leaves (d + 1) p (descended g ks xs m j) r q
+          → Leaves d p (descended f ks xs i j) (Ends e) (set q d x)
       unfolding below reached digits
       way-down q r e k h = rw step (go (descended g ks xs m j) h)
         where

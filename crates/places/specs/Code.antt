@@ -1,6 +1,6 @@
--- What following terms downward computes, whatever the columns hold: from term i, in at most so many digits,
--- to term j, by the subterm that j stands in. `proofs/Laws.antt` shows that it is the path where the columns
--- hold a term.
+-- What following terms downward computes, whatever the columns hold: from term i, in at most so many
+-- digits, to term j, by the subterm that j stands in. `proofs/Laws.antt` shows that it is the path
+-- where the columns hold a term.
 use Prim.Native.Nat.{ℕ, zero, suc, _+_}
 use mathlib.Core.Bool.{_&&_}
 use mathlib.Core.List.{List, [], _∷_}

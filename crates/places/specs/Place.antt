@@ -45,8 +45,8 @@ event-path w = w ++ (1 ∷ [])
 abbrev pub left-path : List ℕ
 left-path = 0 ∷ []
 
--- a literal of a right-hand side, by the number of its term: the term's own literal (a prefix's arrow), or a
--- prefix's event
+-- a literal of a right-hand side, by the number of its term: the term's own literal (a prefix's
+-- arrow), or a prefix's event
 pub data Literal : Type 0 where
   own : ℕ → Literal
   event : ℕ → Literal

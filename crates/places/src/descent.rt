@@ -3,7 +3,7 @@ use crate::Reached;
 use crate::Step;
 use frames::subterms;
 ghost use mathlib.Core.Path.{_≡_};
-ghost use Prim.Native.Nat.{_-_, _+_, _≤_, _<_};
+ghost use Prim.Native.Nat.{_-_, _≤_, _<_};
 ghost use lib.Seq.{sets};
 ghost use Rattle.places.specs.Code as code;
 ghost use Rattle.places.specs.Code.{look, descended, reached, digits};

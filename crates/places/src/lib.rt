@@ -22,8 +22,8 @@ pub enum Literal {
     Event(usize),
 }
 
-// The place of a literal, whose path stands in front of the lent array; `Nowhere` where the columns hold no
-// such literal.
+// The place of a literal, whose path stands in front of the lent array; `Nowhere` where the
+// columns hold no such literal.
 pub enum Placed {
     At { definition: u8, length: usize },
     Nowhere,

@@ -123,13 +123,14 @@ module _ (s : List ℕ) (at : ℕ) where
       step-line z =
           let q = is-step (line .held) (sym z ∙ judged (line .held) stands) in
           let k : length cs ≡ 2 * length (line .held) = bytes-length cs (line .held) stands in
-          let d : length (digits (line .held)) ≡ length cs / 2 - 3 = omega (arith, length-drop 3 (line .held)) in
+          let ds = digits (line .held) in
+          let d : length ds ≡ length cs / 2 - 3 = omega (arith, length-drop 3 (line .held)) in
           record {
             held = line .held;
             stands = stands;
             long = omega arith;
             few = omega arith;
             counted = d;
-            told = rw (← d) (answered (address (digits (line .held))) (q .asks));
-            stored = leaves (address (digits (line .held))) (q .asks);
+            told = rw (← d) (answered (address ds) (q .asks));
+            stored = leaves (address ds) (q .asks);
           }

@@ -1,5 +1,5 @@
--- What private functions answer whatever they are handed; `proofs/Steps.antt` shows what it is at a line of a
--- script.
+-- What private functions answer whatever they are handed; `proofs/Steps.antt` shows what
+-- it is at a line of a script.
 use Prim.Native.Nat.{ℕ}
 use Rattle.lines.specs.declared.Line.{Line}
 use Rattle.lines.specs.declared.Line.the-variants.{Found, NoLine, End as NoneLeft}

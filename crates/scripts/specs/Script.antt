@@ -1,7 +1,7 @@
 -- Document 01, 'Script': `20 llll digits`: one step, llll digits (0 to 1,024), a byte each, 01 to 04; and its
 -- refusals 1, 2 and 3.
-use Prim.Native.Nat.{ℕ, _+_, _-_}
-use mathlib.Core.Bool.{Bool, true, false, _&&_, not}
+use Prim.Native.Nat.{ℕ, _+_}
+use mathlib.Core.Bool.{Bool, true, _&&_}
 use mathlib.Core.List.{List, [], _∷_}
 use mathlib.Core.Option.{Option, none, some}
 use lib.ListN.{length, getD, take, drop}
@@ -20,7 +20,8 @@ digits bs = drop 3 bs
 
 -- a script's frame, with llll its line's count: where it is not, the refusal is 2
 unfoldable pub well-formed : List ℕ → Bool
-well-formed bs = eqb (getD bs 0 0) 0x20 && (leb 3 (length bs) && eqb (number (take 2 (drop 1 bs))) (length (digits bs)))
+well-formed bs =
+    eqb (getD bs 0 0) 0x20 && (leb 3 (length bs) && eqb (number (take 2 (drop 1 bs))) (length (digits bs)))
 
 -- each digit is 01 to 04
 unfoldable pub all-digits : List ℕ → Bool

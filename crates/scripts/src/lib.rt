@@ -44,11 +44,12 @@ pub enum Step {
     End,
 }
 
-// The next line of a script from a cursor. Its digits go to the front of `digits`; a refusal leaves the array
-// as it was.
+// The next line of a script from a cursor. Its digits go to the front of `digits`; a refusal
+// leaves the array as it was.
 pub fn next_step(text: &[u8], at: usize, digits: &mut [u8; 1024]) -> Step
     ensures { λ r. ⌜ r ≡ answer at (lines (drop at (now (text .entry)))) ⌝ }
-    ensures { λ _. ⌜ now (digits .exit) ≡ sets (now (digits .entry)) 0 (left (lines (drop at (now (text .entry))))) ⌝ }
+    ensures { λ _. ⌜ now (digits .exit)
+        ≡ sets (now (digits .entry)) 0 (left (lines (drop at (now (text .entry))))) ⌝ }
 {
     let line = next_line(text, at);
     let Line::Found { end, next } = line else {

@@ -1,21 +1,20 @@
--- Tables judged by computation: document 01's case A is accepted with its columns, and a text for each number of refusal meets it
--- at its line, the lowest where several hold. One statement for all. Assumes nothing.
-use Prim.Native.Nat.{ℕ, suc, _+_}
+-- Tables judged by computation: document 01's case A is accepted with its counts, and for each
+-- number of refusal from 1 to 5 a text meets it at its line, the lowest where several hold. One
+-- statement for all. Assumes nothing.
+use Prim.Native.Nat.{ℕ, _+_}
 use mathlib.Core.Path.{_≡_, refl}
-use mathlib.Core.Bool.{Bool, true, false, _&&_, _||_, not}
 use mathlib.Core.List.{List, [], _∷_, _++_, map}
-use lib.ListN.{length, replicate, drop}
-use Rattle.lines.specs.Line.{character, hex, text, digit, before, lines, pair, bytes, frame, characters, number-from}
+use lib.ListN.{replicate}
+use Rattle.lines.specs.Line.{character, hex, text, digit, before, lines, pair, bytes, frame, characters}
+use Rattle.lines.specs.Line.{number-from}
 use Rattle.frames.specs.Kind.{known, payload-bytes, subterms}
 use Rattle.frames.specs.TableFrame.{frame-of, limit, longest, refusal, first-refusal, closes}
-use Rattle.tables.specs.Table.{Sofar, next-due, seen, taken, held, verdict, behind, rest, from-first, judged}
+use Rattle.tables.specs.Table.{next-due, seen, taken, held, verdict, behind, rest, from-first, judged}
 use Rattle.tables.specs.Columns.{answer}
-use Rattle.tables.specs.declared.Counts.{Counts}
 use Rattle.tables.specs.declared.Checked.{Checked}
 use Rattle.tables.specs.declared.Checked.the-variants.{Accepted, Refused}
 
--- frames of tables
--- the parts that the texts are made of
+-- the frames that the texts are made of
 opening : List ℕ
 opening = 0x10 ∷ 1 ∷ 1 ∷ 1 ∷ []
 
@@ -34,7 +33,9 @@ STOP = 0x12 ∷ 8 ∷ []
 -- case A: (e0 → SKIP) and (e0 → STOP) in parallel on e0
 case-A : List (List ℕ)
 case-A =
-    opening ∷ first ∷ (0x12 ∷ 6 ∷ 0 ∷ 0 ∷ 0 ∷ 0 ∷ 0 ∷ 0 ∷ 0 ∷ 1 ∷ []) ∷ e0 ∷ SKIP ∷ e0 ∷ STOP ∷ (0x1f ∷ 0 ∷ 5 ∷ []) ∷ []
+    opening ∷ first
+    ∷ (0x12 ∷ 6 ∷ 0 ∷ 0 ∷ 0 ∷ 0 ∷ 0 ∷ 0 ∷ 0 ∷ 1 ∷ []) ∷ e0 ∷ SKIP ∷ e0 ∷ STOP
+    ∷ (0x1f ∷ 0 ∷ 5 ∷ []) ∷ []
 
 -- n prefixes and SKIP, with their count
 prefixes : ℕ → List (List ℕ)
@@ -80,5 +81,7 @@ answers =
     ∷ []
 
 pub cases-judged : map (λ (t : List ℕ). answer (judged t)) texts ≡ answers
-unfolding opening first e0 SKIP STOP case-A prefixes of texts answers character hex text digit before lines pair bytes frame characters number-from known payload-bytes subterms frame-of limit longest refusal first-refusal closes next-due seen taken held verdict behind rest from-first judged answer
+unfolding opening first e0 SKIP STOP case-A prefixes of texts answers character hex text digit before lines
+    pair bytes frame characters number-from known payload-bytes subterms frame-of limit longest refusal
+    first-refusal closes next-due seen taken held verdict behind rest from-first judged answer
 cases-judged = refl

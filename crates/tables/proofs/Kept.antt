@@ -1,20 +1,23 @@
--- What the loop keeps is what the lines so far have said, and taking a frame in keeps that so: the path lengths due stand in
--- `depth` and `waiting`, each below as many as its own length, and each column has the terms' numbers in front. Assumes nothing.
+-- What the loop keeps is what the lines so far have said, and taking a frame in keeps that so: the path
+-- lengths due stand in `depth` and `waiting`, each below as many as its own length, and each column has the
+-- terms' numbers in front. Assumes nothing.
 use Prim.Native.Nat.{ℕ, zero, suc, _+_, _-_, _≤_, _<_}
 use mathlib.Core.Path.{_≡_, refl, sym, ap, ap₂, _∙_}
 use mathlib.Core.Bool.{Bool, true, false}
 use mathlib.Core.List.{List, [], _∷_, _++_, map}
 use native.Mathlib.Omega.{arith}
-use native.Mathlib.Nat.{add-zero, add-suc, suc-add, zero-add}
-use lib.ListN.{length, getD, set, drop, replicate, length-append, length-set, length-replicate, length-drop, length-map}
+use native.Mathlib.Nat.{add-zero, zero-add}
+use lib.ListN.{length, getD, set, drop, replicate, length-append, length-set, length-replicate, length-drop}
+use lib.ListN.{length-map}
 use lib.Seq.{sets, getD-set-same, getD-set-other}
 use lib.Dec.{eqb}
-use borrow.Author.Tests.{eq-eqb, ne-eqb}
+use borrow.Author.Tests.{ne-eqb}
 use Rattle.lines.specs.Line.{choose}
 use Rattle.frames.specs.Kind.{subterms}
-use Rattle.frames.specs.TableFrame.{refusal, closes, term-room}
+use Rattle.frames.specs.TableFrame.{refusal, closes}
 use Rattle.tables.specs.Table.{Item, Sofar, next-due, seen, taken}
-use Rattle.tables.specs.Code.{Ready, topmost, moved, owed, pushed, started, seen-then, waiting-then, roots-then, column-then}
+use Rattle.tables.specs.Code.{Ready, topmost, moved, owed, pushed, started, seen-then, waiting-then}
+use Rattle.tables.specs.Code.{roots-then, column-then}
 use Rattle.frames.specs.declared.Frame.{Frame}
 use Rattle.frames.specs.declared.Frame.the-variants.{Opening, Definition, Term, Closing, Wrong}
 use Rattle.frames.specs.declared.Seen.{Seen}
@@ -22,7 +25,8 @@ use Rattle.frames.proofs.KindLaws.{subterms-most}
 use Rattle.frames.proofs.Fine.{FineTerm, fine-term, depth-fits, fine-definition}
 
 -- one number more at the end of a run of stores
-pub sets-snoc : (l : List ℕ) (i : ℕ) (vs : List ℕ) (v n : ℕ) → n ≡ i + length vs → set (sets l i vs) n v ≡ sets l i (vs ++ (v ∷ []))
+pub sets-snoc : (l : List ℕ) (i : ℕ) (vs : List ℕ) (v n : ℕ) → n ≡ i + length vs
+    → set (sets l i vs) n v ≡ sets l i (vs ++ (v ∷ []))
 sets-snoc l i [] v n e = ap (λ (m : ℕ). set l m v) (e ∙ add-zero i)
 sets-snoc l i (x ∷ vs) v n e = sets-snoc (set l i x) (suc i) vs v n (omega arith)
 
@@ -63,10 +67,12 @@ stacked-owed : (n d : ℕ) (w ds : List ℕ) → n ≤ 2 → length ds < length 
 stacked-owed zero d w [] h k t = tt
 stacked-owed zero d w (x ∷ ds) h k t = t .1
 stacked-owed (suc zero) d w ds h k t = t
-stacked-owed (suc (suc zero)) d w ds h k t = (getD-set-same w (length ds) (d + 1) 0 k, stacked-set w ds (length ds) (d + 1) (omega arith) t)
+stacked-owed (suc (suc zero)) d w ds h k t =
+    (getD-set-same w (length ds) (d + 1) 0 k, stacked-set w ds (length ds) (d + 1) (omega arith) t)
 stacked-owed (suc (suc (suc n))) d w ds h k t = absurd (omega arith)
 
-next-owed : (n d : ℕ) (ds : List ℕ) → choose (eqb n 0) (next-due ds) (d + 1) ≡ next-due (replicate n (d + 1) ++ ds)
+next-owed : (n d : ℕ) (ds : List ℕ)
+    → choose (eqb n 0) (next-due ds) (d + 1) ≡ next-due (replicate n (d + 1) ++ ds)
 unfolding next-due
 next-owed zero d ds = refl
 next-owed (suc n) d ds = simp (ne-eqb (suc n) 0 (λ z. omega arith))
@@ -103,19 +109,23 @@ module _ (S : Sofar) (s : Seen) (w k p o r k₀ p₀ o₀ r₀ : List ℕ) (keep
   }
 
   -- the numbers of the terms, with one more
-  column-more : (of : Item → ℕ) (xs xs₀ : List ℕ) (x : Item) (v : ℕ) → v ≡ of x → xs ≡ sets xs₀ 0 (map of (S .terms))
+  column-more : (of : Item → ℕ) (xs xs₀ : List ℕ) (x : Item) (v : ℕ) → v ≡ of x
+      → xs ≡ sets xs₀ 0 (map of (S .terms))
       → set xs (s .terms) v ≡ sets xs₀ 0 (map of (S .terms ++ (x ∷ [])))
   unfolding seen
   column-more of xs xs₀ x v e q =
-      let n : s .terms ≡ 0 + length (map of (S .terms)) = ap (λ (t : Seen). t .terms) (keeps .sees) ∙ sym (zero-add (length (map of (S .terms))) ∙ length-map (S .terms) of) in
-      ap₂ (λ (l : List ℕ) (u : ℕ). set l (s .terms) u) q e ∙ sets-snoc xs₀ 0 (map of (S .terms)) (of x) (s .terms) n
+      let vs = map of (S .terms) in
+      let count = ap (λ (t : Seen). t .terms) (keeps .sees) in
+      let n : s .terms ≡ 0 + length vs = count ∙ sym (zero-add (length vs) ∙ length-map (S .terms) of) in
+      ap₂ (λ (l : List ℕ) (u : ℕ). set l (s .terms) u) q e ∙ sets-snoc xs₀ 0 vs (of x) (s .terms) n
       ∙ ap (sets xs₀ 0) (sym (map-snoc of (S .terms) x))
 
   length-snoc : {A : Type 0} (xs : List A) (x : A) → length xs + 1 ≡ length (xs ++ (x ∷ []))
   length-snoc xs x = sym (length-append xs (x ∷ []))
 
   due-after : (n d : ℕ) (ds : List ℕ) → length ds - 1 + n ≡ length (replicate n d ++ drop 1 ds)
-  due-after n d ds = omega (arith, length-append (replicate n d) (drop 1 ds), length-replicate n d, length-drop 1 ds)
+  due-after n d ds =
+      omega (arith, length-append (replicate n d) (drop 1 ds), length-replicate n d, length-drop 1 ds)
 
   tail-short : (ds : List ℕ) → Steep ds → 0 < length ds → length (drop 1 ds) ≤ next-due ds
   unfolding next-due
@@ -126,53 +136,64 @@ module _ (S : Sofar) (s : Seen) (w k p o r k₀ p₀ o₀ r₀ : List ℕ) (keep
   steep-tail [] t = tt
   steep-tail (d ∷ ds) t = t .1
 
+  -- the others due
+  abbrev others : List ℕ
+  others = drop 1 (S .due)
+
   -- the state and the others due, once a term is taken in
   sees-term : (kk pp : ℕ) → owed kk s w ≡ seen (taken S (Term kk pp))
   unfolding taken seen owed
   sees-term kk pp =
       let n : ℕ = subterms kk in
       let d : ℕ = next-due (S .due) in
-      let more : length (S .terms) + 1 ≡ length (taken S (Term kk pp) .terms) = length-snoc (S .terms) _ in
-      let due : length (S .due) - 1 + n ≡ length (taken S (Term kk pp) .due) = due-after n (d + 1) (S .due) in
-      let top : topmost (length (S .due) - 1) w ≡ next-due (drop 1 (S .due)) =
-      rw (← length-drop 1 (S .due)) (topmost-stacked w (drop 1 (S .due)) (keeps .stacked)) in
-      let next : choose (eqb n 0) (topmost (length (S .due) - 1) w) (d + 1) ≡ next-due (taken S (Term kk pp) .due) =
-      rw top (next-owed n d (drop 1 (S .due))) in
+      let T = taken S (Term kk pp) in
+      let more : length (S .terms) + 1 ≡ length (T .terms) = length-snoc (S .terms) _ in
+      let due : length (S .due) - 1 + n ≡ length (T .due) = due-after n (d + 1) (S .due) in
+      let stack = topmost-stacked w others (keeps .stacked) in
+      let top : topmost (length (S .due) - 1) w ≡ next-due others = rw (← length-drop 1 (S .due)) stack in
+      let next : choose (eqb n 0) (topmost (length (S .due) - 1) w) (d + 1) ≡ next-due (T .due) =
+      rw top (next-owed n d others) in
       ap (λ (t : Seen). owed kk t w) (keeps .sees) ∙ (λ i. moved (seen S) (more i) (due i) (next i))
 
-  pushed-is : (kk : ℕ) → pushed kk s w ≡ choose (eqb (subterms kk) 2) (set w (length (drop 1 (S .due))) (next-due (S .due) + 1)) w
+  pushed-is : (kk : ℕ)
+      → pushed kk s w ≡ choose (eqb (subterms kk) 2) (set w (length others) (next-due (S .due) + 1)) w
   unfolding seen pushed
   pushed-is kk =
       ap (λ (t : Seen). pushed kk t w) (keeps .sees)
-      ∙ ap (λ (m : ℕ). choose (eqb (subterms kk) 2) (set w m (next-due (S .due) + 1)) w) (sym (length-drop 1 (S .due)))
+      ∙ ap (λ (m : ℕ). choose (eqb (subterms kk) 2) (set w m (next-due (S .due) + 1)) w)
+      (sym (length-drop 1 (S .due)))
 
   long-choose : (b : Bool) (m v : ℕ) → length (choose b (set w m v) w) ≡ 65
   long-choose true m v = length-set w m v ∙ keeps .long
   long-choose false m v = keeps .long
 
   pub keeps-term : (kk pp : ℕ) → refusal (Term kk pp) s ≡ 0
-      → Keeps (taken S (Term kk pp)) (owed kk s w) (pushed kk s w) (set k (s .terms) kk) (set p (s .terms) pp) (set o (s .terms) (s .begun - 1)) r k₀ p₀ o₀ r₀
+      → Keeps (taken S (Term kk pp)) (owed kk s w) (pushed kk s w) (set k (s .terms) kk) (set p (s .terms) pp)
+      (set o (s .terms) (s .begun - 1)) r k₀ p₀ o₀ r₀
   unfolding taken seen
   keeps-term kk pp e =
       let f : FineTerm kk pp s = fine-term s kk pp e in
+      let n : ℕ = subterms kk in
       let d : ℕ = next-due (S .due) in
-      let rest : List ℕ = drop 1 (S .due) in
       let wanted : 0 < length (S .due) = rw (keeps .sees) at (f .wanted) in
       let deep : d ≤ 64 = rw (keeps .sees) at (depth-fits s kk pp f) in
       let room : length (S .terms) < 1024 = rw (keeps .sees) at (f .room) in
-      let few : length rest ≤ d = tail-short (S .due) (keeps .steep) wanted in
+      let few : length others ≤ d = tail-short (S .due) (keeps .steep) wanted in
+      let fit : length others < length w = omega (arith, keeps .long) in
+      let owner : s .begun - 1 ≡ length (S .roots) - 1 = ap (λ (t : Seen). t .begun - 1) (keeps .sees) in
+      let item : Item = record { definition = length (S .roots) - 1; kind = kk; payload = pp } in
       record {
         sees = sees-term kk pp;
-        stacked = rw (pushed-is kk) (stacked-owed (subterms kk) d w rest (subterms-most kk) (omega (arith, keeps .long)) (keeps .stacked));
-        long = rw (pushed-is kk) (long-choose (eqb (subterms kk) 2) (length rest) (d + 1));
-        steep = steep-owed (subterms kk) d rest (subterms-most kk) few (steep-tail (S .due) (keeps .steep));
+        stacked = rw (pushed-is kk) (stacked-owed n d w others (subterms-most kk) fit (keeps .stacked));
+        long = rw (pushed-is kk) (long-choose (eqb n 2) (length others) (d + 1));
+        steep = steep-owed n d others (subterms-most kk) few (steep-tail (S .due) (keeps .steep));
         kinds-are = column-more (λ (i : Item). i .kind) k k₀ _ kk refl (keeps .kinds-are);
         payloads-are = column-more (λ (i : Item). i .payload) p p₀ _ pp refl (keeps .payloads-are);
-        owners-are = column-more (λ (i : Item). i .definition) o o₀ _ (s .begun - 1) (ap (λ (t : Seen). t .begun - 1) (keeps .sees)) (keeps .owners-are);
+        owners-are = column-more (λ (i : Item). i .definition) o o₀ _ (s .begun - 1) owner (keeps .owners-are);
         roots-are = keeps .roots-are;
         definitions-fit = keeps .definitions-fit;
         begun-fit = keeps .begun-fit;
-        terms-fit = omega (arith, length-snoc (S .terms) (record { definition = length (S .roots) - 1; kind = kk; payload = pp }));
+        terms-fit = omega (arith, length-snoc (S .terms) item);
       }
 
   -- and once a definition is
@@ -180,7 +201,14 @@ module _ (S : Sofar) (s : Seen) (w k p o r k₀ p₀ o₀ r₀ : List ℕ) (keep
   unfolding taken seen started next-due
   sees-definition n =
       let more : length (S .roots) + 1 ≡ length (taken S (Definition n) .roots) = length-snoc (S .roots) _ in
-      ap started (keeps .sees) ∙ (λ i. record { definitions = S .definitions; events = S .events; begun = more i; terms = length (S .terms); due = 1; depth = 0 })
+      ap started (keeps .sees) ∙ (λ i. record {
+        definitions = S .definitions;
+        events = S .events;
+        begun = more i;
+        terms = length (S .terms);
+        due = 1;
+        depth = 0;
+      })
 
   pub keeps-definition : (n : ℕ) → refusal (Definition n) s ≡ 0
       → Keeps (taken S (Definition n)) (started s) w k p o (set r (s .begun) (s .terms)) k₀ p₀ o₀ r₀
@@ -207,8 +235,9 @@ module _ (S : Sofar) (s : Seen) (w k p o r k₀ p₀ o₀ r₀ : List ℕ) (keep
 
   -- a frame that meets no refusal and is not the last keeps it so
   pub keeps-on : (f : Frame) → refusal f s ≡ 0 → closes f ≡ false
-      → Keeps (taken S f) (seen-then f s w) (waiting-then f s w) (column-then (λ kk pp. kk) f s k) (column-then (λ kk pp. pp) f s p)
-      (column-then (λ kk pp. s .begun - 1) f s o) (roots-then f s r) k₀ p₀ o₀ r₀
+      → Keeps (taken S f) (seen-then f s w) (waiting-then f s w) (column-then (λ kk pp. kk) f s k)
+      (column-then (λ kk pp. pp) f s p) (column-then (λ kk pp. s .begun - 1) f s o) (roots-then f s r)
+      k₀ p₀ o₀ r₀
   unfolding refusal closes seen-then waiting-then column-then roots-then
   keeps-on Wrong e h = let z : _≡_ {A = ℕ} 2 0 = e in absurd (omega arith)
   keeps-on (Opening ed dd ee) e h = let z : _≡_ {A = ℕ} 2 0 = e in absurd (omega arith)

@@ -1,18 +1,18 @@
--- The loop over a table's lines: what is judged of the whole is what is judged of the lines from the cursor on, by what the loop
--- keeps. One law for the start, one for each way out and one for a turn. Assumes nothing.
-use Prim.Native.Nat.{ℕ, suc, _+_, _-_, _≤_, _<_}
+-- The loop over a table's lines: what is judged of the whole is what is judged of the lines from the cursor on,
+-- by what the loop keeps. One law for the start, one for each way out and one for a turn. Assumes nothing.
+use Prim.Native.Nat.{ℕ, _+_, _-_, _≤_, _<_}
 use mathlib.Core.Path.{_≡_, refl, sym, ap, _∙_, subst}
-use mathlib.Core.Bool.{Bool, true, false}
+use mathlib.Core.Bool.{true, false}
 use mathlib.Core.List.{List, [], _∷_}
-use mathlib.Core.Option.{Option, none, some}
 use native.Mathlib.Omega.{arith}
 use lib.ListN.{length, drop, length-replicate, replicate}
-use Rattle.lines.specs.Line.{choose, Raw, frame, lines}
+use Rattle.lines.specs.Line.{Raw, lines}
 use Rattle.lines.specs.Line as Line
 use Rattle.lines.specs.declared.Line.the-variants.{Found, NoLine, End}
-use Rattle.lines.proofs.Laws.{IsLine, is-line, NotALine, not-a-line, none-left}
+use Rattle.lines.proofs.Laws.{is-line, not-a-line, none-left}
 use Rattle.frames.specs.TableFrame.{refusal, closes}
-use Rattle.tables.specs.Table.{Sofar, next-due, seen, taken, verdict, Judged, accepted, refused, behind, rest}
+use Rattle.tables.specs.Table.{Sofar, next-due, seen, taken, verdict, Judged, accepted, refused, behind}
+use Rattle.tables.specs.Table.{rest}
 use Rattle.tables.specs.Columns.{answer}
 use Rattle.frames.specs.Code.{said}
 use Rattle.tables.specs.Code.{Ready, begins, Filled, seen-then, waiting-then, roots-then, column-then}
@@ -32,23 +32,26 @@ module _ (S : Sofar) (t : List ℕ) (at n : ℕ) where
   unfolding behind
   behind-end e = rw (none-left t at e)
 
-  pub behind-no-line : Line.answer at (lines (drop at t)) ≡ NoLine → refused 1 n ≡ behind S n (lines (drop at t))
+  pub behind-no-line : Line.answer at (lines (drop at t)) ≡ NoLine
+      → refused 1 n ≡ behind S n (lines (drop at t))
   unfolding behind verdict
   behind-no-line e = let b = not-a-line t at e in rw (b .first, b .broken)
 
-  pub behind-line : (e m : ℕ) → Line.answer at (lines (drop at t)) ≡ Found e m → refused 2 n ≡ behind S n (lines (drop at t))
+  pub behind-line : (e m : ℕ) → Line.answer at (lines (drop at t)) ≡ Found e m
+      → refused 2 n ≡ behind S n (lines (drop at t))
   unfolding behind verdict
   behind-line e m h = let b = is-line t at e m h in rw (b .first, b .framed)
 
 -- the answer for a table that is accepted
-pub answer-accepted : (t : Sofar) (s : Seen) → s ≡ seen t
-    → Accepted (record { definitions = s .definitions; events = s .events; terms = s .terms }) ≡ answer (accepted t)
+abbrev counts : Seen → Counts
+counts s = record { definitions = s .definitions; events = s .events; terms = s .terms }
+
+pub answer-accepted : (t : Sofar) (s : Seen) → s ≡ seen t → Accepted (counts s) ≡ answer (accepted t)
 unfolding answer seen
-answer-accepted t s e =
-    ap (λ (u : Seen). Accepted (record { definitions = u .definitions; events = u .events; terms = u .terms })) e
+answer-accepted t s e = ap (λ (u : Seen). Accepted (counts u)) e
 
 -- what is accepted behind the last line is what was said before it
-behind-accepts : (S T : Sofar) (n : ℕ) (ls : List Raw) → behind S n ls ≡ accepted T → S ≡ T
+pub behind-accepts : (S T : Sofar) (n : ℕ) (ls : List Raw) → behind S n ls ≡ accepted T → S ≡ T
 unfolding behind
 behind-accepts S T n [] e = cc
 behind-accepts S T n (l ∷ ls) e = let z : _≡_ {A = ℕ} 0 1 = cc in absurd (omega arith)
@@ -56,6 +59,10 @@ behind-accepts S T n (l ∷ ls) e = let z : _≡_ {A = ℕ} 0 1 = cc in absurd (
 -- what is judged of all lines behind line 1
 abbrev whole : List ℕ → ℕ → ℕ → ℕ → Judged
 whole text from d ev = rest (begins d ev) 2 (lines (drop from text))
+
+-- what the loop begins with
+abbrev start : ℕ → ℕ → Seen
+start d ev = record { definitions = d; events = ev; begun = 0; terms = 0; due = 0; depth = 0 }
 
 module _ (text : List ℕ) (from d ev : ℕ) (k₀ p₀ o₀ r₀ : List ℕ) where
   -- what holds at each turn
@@ -65,7 +72,7 @@ module _ (text : List ℕ) (from d ev : ℕ) (k₀ p₀ o₀ r₀ : List ℕ) wh
     pub work : whole text from d ev ≡ rest sofar line (lines (drop at text))
     pub counted : line ≤ at + 2
 
-  pub going-starts : d ≤ 64 → Going k₀ p₀ o₀ r₀ (replicate 65 0) (record { definitions = d; events = ev; begun = 0; terms = 0; due = 0; depth = 0 }) from 2
+  pub going-starts : d ≤ 64 → Going k₀ p₀ o₀ r₀ (replicate 65 0) (start d ev) from 2
   unfolding seen next-due
   going-starts h = record {
     sofar = begins d ev;
@@ -88,18 +95,26 @@ module _ (text : List ℕ) (from d ev : ℕ) (k₀ p₀ o₀ r₀ : List ℕ) wh
 
 module _ {text : List ℕ} {from d ev : ℕ} {k₀ p₀ o₀ r₀ k p o r w : List ℕ} {s : Seen} {at line : ℕ}
     (g : Going text from d ev k₀ p₀ o₀ r₀ k p o r w s at line) where
-  by-sofar : (x : Said) → x ≡ said (λ (f : Frame). refusal f s) at (lines (drop at text))
-      → said (λ (f : Frame). refusal f (seen (g .sofar))) at (lines (drop at text)) ≡ x
+  -- what the line at the cursor says
+  abbrev told : Seen → Said
+  told u = said (λ (f : Frame). refusal f u) at (lines (drop at text))
+
+  by-sofar : (x : Said) → x ≡ told s → told (seen (g .sofar)) ≡ x
   by-sofar x e = sym (rw (g .keeps .sees) at e)
 
-  pub going-stops : (n : ℕ) → Stops n ≡ said (λ (f : Frame). refusal f s) at (lines (drop at text))
-      → (Refused n line ≡ answer (whole text from d ev)) × ((t : Sofar) → whole text from d ev ≡ accepted t → Filled t k p o r k₀ p₀ o₀ r₀)
+  -- the answer is the whole's, and the columns are filled where that is accepted
+  abbrev Done : Checked → Type 0
+  Done x = (x ≡ answer (whole text from d ev))
+      × ((t : Sofar) → whole text from d ev ≡ accepted t → Filled t k p o r k₀ p₀ o₀ r₀)
+
+  pub going-stops : (n : ℕ) → Stops n ≡ told s → Done (Refused n line)
   unfolding answer
   going-stops n e =
-      let over : whole text from d ev ≡ refused n line = g .work ∙ rest-stops (g .sofar) text at line n (by-sofar (Stops n) e) in
+      let stops = rest-stops (g .sofar) text at line n (by-sofar (Stops n) e) in
+      let over : whole text from d ev ≡ refused n line = g .work ∙ stops in
       (rw over, λ t q. let z : _≡_ {A = ℕ} 0 1 = cc in absurd (omega arith))
 
-  module _ {f : Frame} {next : ℕ} (e : Goes f next ≡ said (λ (f : Frame). refusal f s) at (lines (drop at text))) where
+  module _ {f : Frame} {next : ℕ} (e : Goes f next ≡ told s) where
     went : Went (g .sofar) text at line f next
     went = rest-goes (g .sofar) text at line f next (by-sofar (Goes f next) e)
 
@@ -112,13 +127,16 @@ module _ {text : List ℕ} {from d ev : ℕ} {k₀ p₀ o₀ r₀ k p o r w : Li
     pub going-ready : Ready f s
     going-ready = ready (g .sofar) s w k p o r k₀ p₀ o₀ r₀ (g .keeps) f fine
 
-    pub going-closes : closes f ≡ true → (x : Checked) → ((t : Sofar) → s ≡ seen t → x ≡ answer (behind t (line + 1) (lines (drop next text))))
-        → (x ≡ answer (whole text from d ev)) × ((t : Sofar) → whole text from d ev ≡ accepted t → Filled t k p o r k₀ p₀ o₀ r₀)
+    pub going-closes : closes f ≡ true → (x : Checked)
+        → ((t : Sofar) → s ≡ seen t → x ≡ answer (behind t (line + 1) (lines (drop next text))))
+        → Done x
     going-closes c x h =
-        let over : whole text from d ev ≡ behind (g .sofar) (line + 1) (lines (drop next text)) = g .work ∙ (rw c at (went .then)) in (
-          h (g .sofar) (g .keeps .sees) ∙ ap answer (sym over),
+        let S = g .sofar in
+        let ls = lines (drop next text) in
+        let over : whole text from d ev ≡ behind S (line + 1) ls = g .work ∙ (rw c at (went .then)) in (
+          h S (g .keeps .sees) ∙ ap answer (sym over),
           λ t q.
-              let same : g .sofar ≡ t = behind-accepts (g .sofar) t (line + 1) (lines (drop next text)) (sym over ∙ q) in
+              let same : S ≡ t = behind-accepts S t (line + 1) ls (sym over ∙ q) in
               let K = g .keeps in
               subst (λ (u : Sofar). Filled u k p o r k₀ p₀ o₀ r₀) same (record {
                 kinds-are = K .kinds-are;
@@ -131,8 +149,9 @@ module _ {text : List ℕ} {from d ev : ℕ} {k₀ p₀ o₀ r₀ k p o r w : Li
         )
 
     going-again : closes f ≡ false
-        → Going text from d ev k₀ p₀ o₀ r₀ (column-then (λ kk pp. kk) f s k) (column-then (λ kk pp. pp) f s p) (column-then (λ kk pp. s .begun - 1) f s o)
-        (roots-then f s r) (waiting-then f s w) (seen-then f s w) next (line + 1)
+        → Going text from d ev k₀ p₀ o₀ r₀ (column-then (λ kk pp. kk) f s k) (column-then (λ kk pp. pp) f s p)
+        (column-then (λ kk pp. s .begun - 1) f s o) (roots-then f s r) (waiting-then f s w) (seen-then f s w)
+        next (line + 1)
     going-again c = record {
       sofar = taken (g .sofar) f;
       keeps = keeps-on (g .sofar) s w k p o r k₀ p₀ o₀ r₀ (g .keeps) f fine c;
@@ -140,7 +159,9 @@ module _ {text : List ℕ} {from d ev : ℕ} {k₀ p₀ o₀ r₀ k p o r w : Li
       counted = omega (arith, g .counted, went .on);
     }
 
-    pub going-turn : closes f ≡ false → (k′ p′ o′ r′ w′ : List ℕ) (s′ : Seen) → s′ ≡ seen-then f s w → w′ ≡ waiting-then f s w
+    pub going-turn : closes f ≡ false → (k′ p′ o′ r′ w′ : List ℕ) (s′ : Seen)
+        → s′ ≡ seen-then f s w → w′ ≡ waiting-then f s w
         → k′ ≡ column-then (λ kk pp. kk) f s k → p′ ≡ column-then (λ kk pp. pp) f s p
-        → o′ ≡ column-then (λ kk pp. s .begun - 1) f s o → r′ ≡ roots-then f s r → Going text from d ev k₀ p₀ o₀ r₀ k′ p′ o′ r′ w′ s′ next (line + 1)
+        → o′ ≡ column-then (λ kk pp. s .begun - 1) f s o → r′ ≡ roots-then f s r
+        → Going text from d ev k₀ p₀ o₀ r₀ k′ p′ o′ r′ w′ s′ next (line + 1)
     going-turn c k′ p′ o′ r′ w′ s′ e₁ e₂ e₃ e₄ e₅ e₆ = rw (e₁, e₂, e₃, e₄, e₅, e₆) (going-again c)

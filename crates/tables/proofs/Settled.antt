@@ -1,5 +1,5 @@
--- The promise of `check` settles its outcome: each of its six parts names one value, by the text and the columns at
--- entry alone, so two outcomes that it allows are equal. Assumes nothing.
+-- The promise of `check` settles its outcome: each of its six parts names one value, by the text and the
+-- columns at entry alone, so two outcomes that it allows are equal. Assumes nothing.
 use Prim.Native.Nat.{ℕ}
 use mathlib.Core.Path.{_≡_, sym, _∙_}
 use mathlib.Core.List.{List}
@@ -13,7 +13,8 @@ module _ (text k p o a r : List ℕ) where
   abbrev pub Promised : Checked → List ℕ → List ℕ → List ℕ → List ℕ → List ℕ → Type 0
   Promised x k′ p′ o′ a′ r′ =
       (x ≡ answer (judged text)) × (k′ ≡ left kinds (judged text) k) × (p′ ≡ left payloads (judged text) p)
-      × (o′ ≡ left owners (judged text) o) × (a′ ≡ left afters (judged text) a) × (r′ ≡ left roots (judged text) r)
+      × (o′ ≡ left owners (judged text) o) × (a′ ≡ left afters (judged text) a)
+      × (r′ ≡ left roots (judged text) r)
 
   pub check-settled : (x₁ x₂ : Checked) (k₁ k₂ p₁ p₂ o₁ o₂ a₁ a₂ r₁ r₂ : List ℕ)
       → Promised x₁ k₁ p₁ o₁ a₁ r₁ → Promised x₂ k₂ p₂ o₂ a₂ r₂

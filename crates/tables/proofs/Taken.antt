@@ -1,13 +1,10 @@
 -- Taking a frame in: what `owe` leaves, by how many subterms the kind has. Assumes nothing.
-use Prim.Native.Nat.{ℕ, _+_, _-_, _≤_, _<_}
-use mathlib.Core.Path.{_≡_, refl, sym, ap, ap₂, _∙_}
-use mathlib.Core.Bool.{Bool, true, false}
-use mathlib.Core.List.{List, [], _∷_, _++_}
+use Prim.Native.Nat.{ℕ, _+_, _-_}
+use mathlib.Core.Path.{_≡_, sym, ap₂, _∙_}
+use mathlib.Core.List.{List}
 use native.Mathlib.Omega.{arith}
-use lib.ListN.{length, getD, set}
-use lib.Dec.{eqb}
+use lib.ListN.{getD, set}
 use borrow.Author.Tests.{eq-eqb, ne-eqb}
-use Rattle.lines.specs.Line.{choose}
 use Rattle.frames.specs.Kind.{subterms}
 use Rattle.tables.specs.Code.{topmost, moved, owed, pushed}
 use Rattle.frames.specs.declared.Seen.{Seen}
@@ -23,7 +20,8 @@ topmost-last n w h = simp (ne-eqb n 0 h)
 
 module _ (k : ℕ) (s : Seen) (w : List ℕ) where
   -- a term without subterms leaves the others due
-  pub owed-leaf : subterms k ≡ 0 → (p : ℕ) → p ≡ topmost (s .due - 1) w → moved s (s .terms + 1) (s .due - 1) p ≡ owed k s w
+  pub owed-leaf : subterms k ≡ 0 → (p : ℕ) → p ≡ topmost (s .due - 1) w
+      → moved s (s .terms + 1) (s .due - 1) p ≡ owed k s w
   unfolding owed
   owed-leaf e p q = ap₂ (moved s (s .terms + 1)) (rw e (omega arith)) (simp (eq-eqb (subterms k) 0 e) q)
 
@@ -32,7 +30,8 @@ module _ (k : ℕ) (s : Seen) (w : List ℕ) where
   pushed-not h = simp (ne-eqb (subterms k) 2 h)
 
   -- a term with subterms makes them due at one digit more
-  pub owed-more : (n : ℕ) → subterms k ≡ n → (n ≡ 0 → ⊥) → moved s (s .terms + 1) (s .due - 1 + n) (s .depth + 1) ≡ owed k s w
+  pub owed-more : (n : ℕ) → subterms k ≡ n → (n ≡ 0 → ⊥)
+      → moved s (s .terms + 1) (s .due - 1 + n) (s .depth + 1) ≡ owed k s w
   unfolding owed
   owed-more n e h = ap₂ (moved s (s .terms + 1)) (rw e) (simp (ne-eqb (subterms k) 0 (λ z. h (sym e ∙ z))))
 

@@ -1,6 +1,6 @@
 -- The preorder walk, a turn at a time. Assumes nothing.
 use Prim.Native.Nat.{ℕ, zero, suc, _-_, _≤_, _<_}
-use mathlib.Core.Path.{_≡_, refl, sym, ap, _∙_}
+use mathlib.Core.Path.{_≡_, refl, ap, _∙_}
 use mathlib.Core.List.{List}
 use native.Mathlib.Omega.{arith}
 use lib.ListN.{getD, set}
@@ -21,7 +21,8 @@ module _ (j : ℕ) (xs : List ℕ) where
   unfolding past
   past-two n e = rw e
 
-pub walked-turn : (i : ℕ) (ks xs : List ℕ) (n v : ℕ) → 0 < i → n ≡ subterms (getD ks (i - 1) 0) → v ≡ past n i xs
+pub walked-turn : (i : ℕ) (ks xs : List ℕ) (n v : ℕ) → 0 < i → n ≡ subterms (getD ks (i - 1) 0)
+    → v ≡ past n i xs
     → walked i ks xs ≡ walked (i - 1) ks (set xs (i - 1) v)
 unfolding walked
 walked-turn zero ks xs n v h e q = absurd (omega arith)

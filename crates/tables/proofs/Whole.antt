@@ -1,4 +1,5 @@
--- The whole of a table's text: what line 1 opens, what is judged of all lines, and what the columns then hold. Assumes nothing.
+-- The whole of a table's text: what line 1 opens, what is judged of all lines, and what the columns then
+-- hold. Assumes nothing.
 use Prim.Native.Nat.{ℕ, zero, suc, _+_, _-_, _≤_, _<_}
 use mathlib.Core.Path.{_≡_, refl, sym, ap, ap₂, _∙_}
 use mathlib.Core.Bool.{Bool, true, false, _&&_}
@@ -6,13 +7,14 @@ use mathlib.Core.List.{List, [], _∷_, _++_, map}
 use mathlib.Core.Option.{Option, none, some}
 use native.Mathlib.Omega.{arith}
 use native.Mathlib.Nat.{zero-add}
-use lib.ListN.{length, take, drop, replicate, length-replicate, length-map}
+use lib.ListN.{length, drop, replicate, length-replicate, length-map}
 use lib.Seq.{sets, sets-eq}
 use lib.Dec.{leb, eqb}
-use borrow.Author.Tests.{le-leb, lt-leb, leb-true, eqb-true}
+use borrow.Author.Tests.{le-leb, lt-leb, leb-true}
 use Rattle.lines.specs.Line.{choose, Raw, frame, lines, characters}
 use Rattle.frames.specs.TableFrame.{frame-of, first-refusal}
-use Rattle.tables.specs.Table.{Item, Sofar, taken, unopened, held, verdict, Judged, accepted, refused, rest, from-first, judged, text-room}
+use Rattle.tables.specs.Table.{Item, Sofar, taken, unopened, held, verdict, Judged, accepted, refused}
+use Rattle.tables.specs.Table.{rest, from-first, judged, text-room}
 use Rattle.tables.specs.Columns.{column, kinds, payloads, owners, roots, afters, walked, left, answer}
 use Rattle.frames.specs.Code.{opens, opened-by, opened, failure}
 use Rattle.tables.specs.Code.{begins, Filled}
@@ -23,7 +25,7 @@ use Rattle.frames.specs.declared.Opened.the-variants.{Table, Fails}
 use Rattle.tables.specs.declared.Counts.{Counts}
 use Rattle.tables.specs.declared.Checked.{Checked}
 use Rattle.tables.specs.declared.Checked.the-variants.{Accepted, Refused}
-use Rattle.tables.proofs.Judged.{Onward, onward}
+use Rattle.tables.proofs.Judged.{onward}
 
 -- what line 1's frame opens
 abbrev Opens : Frame → ℕ → ℕ → Type 0
@@ -40,8 +42,10 @@ opens-table (Opening ed dd ee) next d e n q = go (eqb ed 1) (leb 1 dd) (leb dd 6
     out : {A : Type 0} → Fails 3 ≡ Table d e n → A
     out q = let z : _≡_ {A = ℕ} 0 1 = cc in absurd (omega arith)
 
-    go : (w x y z : Bool) → leb dd 64 ≡ y → choose (eqb (choose (w && (x && (y && z))) 0 3) 0) (Table dd ee next) (Fails 3) ≡ Table d e n
-        → ((_≡_ {A = ℕ} (choose (w && (x && (y && z))) 0 3) 0) × (begins dd ee ≡ begins d e) × (d ≤ 64)) × (next ≡ n)
+    go : (w x y z : Bool) → leb dd 64 ≡ y
+        → choose (eqb (choose (w && (x && (y && z))) 0 3) 0) (Table dd ee next) (Fails 3) ≡ Table d e n
+        → ((_≡_ {A = ℕ} (choose (w && (x && (y && z))) 0 3) 0) × (begins dd ee ≡ begins d e) × (d ≤ 64))
+        × (next ≡ n)
     go true true true true f q =
         let a : dd ≡ d = cc in
         let b : ee ≡ e = cc in
@@ -52,7 +56,8 @@ opens-table (Opening ed dd ee) next d e n q = go (eqb ed 1) (leb 1 dd) (leb dd 6
     go false x y z f q = out q
 
 -- the number that line 1's frame meets is the one told
-opens-fails : (g : Frame) (next k : ℕ) → opens next g ≡ Fails k → (first-refusal g ≡ k) × (eqb (first-refusal g) 0 ≡ false)
+opens-fails : (g : Frame) (next k : ℕ) → opens next g ≡ Fails k
+    → (first-refusal g ≡ k) × (eqb (first-refusal g) 0 ≡ false)
 unfolding opens first-refusal
 opens-fails Wrong next k q = (cc, refl)
 opens-fails (Definition n) next k q = (cc, refl)
@@ -60,28 +65,34 @@ opens-fails (Term t p) next k q = (cc, refl)
 opens-fails (Closing t) next k q = (cc, refl)
 opens-fails (Opening ed dd ee) next k q = go (eqb ed 1 && (leb 1 dd && (leb dd 64 && leb ee 64))) q
   where
-    go : (b : Bool) → choose (eqb (choose b 0 3) 0) (Table dd ee next) (Fails 3) ≡ Fails k → (choose b 0 3 ≡ k) × (eqb (choose b 0 3) 0 ≡ false)
+    go : (b : Bool) → choose (eqb (choose b 0 3) 0) (Table dd ee next) (Fails 3) ≡ Fails k
+        → (choose b 0 3 ≡ k) × (eqb (choose b 0 3) 0 ≡ false)
     go true q = let z : _≡_ {A = ℕ} 0 1 = cc in absurd (omega arith)
     go false q = (cc, refl)
 
-first-opens : (l : Raw) (ls : List Raw) (bs : List ℕ) (d e : ℕ) → frame l ≡ some bs → Opens (frame-of bs) d e → from-first (l ∷ ls) ≡ rest (begins d e) 2 ls
+first-opens : (l : Raw) (ls : List Raw) (bs : List ℕ) (d e : ℕ) → frame l ≡ some bs → Opens (frame-of bs) d e
+    → from-first (l ∷ ls) ≡ rest (begins d e) 2 ls
 unfolding from-first verdict held
 first-opens l ls bs d e f o = rw (f, o .0, o .1)
 
-pub table-opens : (t : List ℕ) (d e n : ℕ) → opened (lines t) ≡ Table d e n → (from-first (lines t) ≡ rest (begins d e) 2 (lines (drop n t))) × (d ≤ 64)
+pub table-opens : (t : List ℕ) (d e n : ℕ) → opened (lines t) ≡ Table d e n
+    → (from-first (lines t) ≡ rest (begins d e) 2 (lines (drop n t))) × (d ≤ 64)
 unfolding opened opened-by
 table-opens t d e n q = go (lines t) refl q
   where
-    by-frame : (l : Raw) (ls : List Raw) (o : Option (List ℕ)) → lines t ≡ l ∷ ls → frame l ≡ o → opened-by (length (characters l) + 1) o ≡ Table d e n
+    by-frame : (l : Raw) (ls : List Raw) (o : Option (List ℕ)) → lines t ≡ l ∷ ls → frame l ≡ o
+        → opened-by (length (characters l) + 1) o ≡ Table d e n
         → (from-first (l ∷ ls) ≡ rest (begins d e) 2 (lines (drop n t))) × (d ≤ 64)
     by-frame l ls none w f q = let z : _≡_ {A = ℕ} 0 1 = cc in absurd (omega arith)
     by-frame l ls (some bs) w f q =
         let r = opens-table (frame-of bs) (length (characters l) + 1) d e n q in
         let o = onward t 0 l ls bs w f in
         let m : 0 + length (characters l) + 1 ≡ n = omega (arith, r .1) in
-        (first-opens l ls bs d e f (r .0) ∙ ap (rest (begins d e) 2) (o .behind-it ∙ ap (λ (j : ℕ). lines (drop j t)) m), r .0 .2)
+        let on = o .behind-it ∙ ap (λ (j : ℕ). lines (drop j t)) m in
+        (first-opens l ls bs d e f (r .0) ∙ ap (rest (begins d e) 2) on, r .0 .2)
 
-    go : (ls : List Raw) → lines t ≡ ls → opened ls ≡ Table d e n → (from-first ls ≡ rest (begins d e) 2 (lines (drop n t))) × (d ≤ 64)
+    go : (ls : List Raw) → lines t ≡ ls → opened ls ≡ Table d e n
+        → (from-first ls ≡ rest (begins d e) 2 (lines (drop n t))) × (d ≤ 64)
     go [] w q = let z : _≡_ {A = ℕ} 0 1 = cc in absurd (omega arith)
     go (l ∷ ls) w q = by-frame l ls (frame l) w refl q
 
@@ -90,7 +101,8 @@ unfolding opened opened-by from-first verdict
 table-fails [] k q = let two : 2 ≡ k = cc in rw (← two)
 table-fails (l ∷ ls) k q = by-frame (frame l) refl q
   where
-    by-frame : (o : Option (List ℕ)) → frame l ≡ o → opened-by (length (characters l) + 1) o ≡ Fails k → from-first (l ∷ ls) ≡ refused k 1
+    by-frame : (o : Option (List ℕ)) → frame l ≡ o → opened-by (length (characters l) + 1) o ≡ Fails k
+        → from-first (l ∷ ls) ≡ refused k 1
     by-frame none f q = let one : 1 ≡ k = cc in rw (f, ← one)
     by-frame (some bs) f q =
         let r = opens-fails (frame-of bs) (length (characters l) + 1) k q in
@@ -116,11 +128,12 @@ unfolding answer
 answer-refuses (accepted s) n l e = let z : _≡_ {A = ℕ} 0 1 = cc in absurd (omega arith)
 answer-refuses (refused m k) n l e = let a : m ≡ n = cc in let b : k ≡ l = cc in ap₂ refused a b
 
-pub answer-accepts : (j : Judged) (c : Counts) → answer j ≡ Accepted c → (s : Sofar) × (j ≡ accepted s) × (c .terms ≡ length (s .terms))
+pub answer-accepts : (j : Judged) (c : Counts) → answer j ≡ Accepted c
+    → (s : Sofar) × (j ≡ accepted s) × (c .terms ≡ length (s .terms))
 unfolding answer
 answer-accepts (accepted s) c e =
-    let same : c ≡ record { definitions = s .definitions; events = s .events; terms = length (s .terms) } = cc in
-    (s, refl, ap (λ (x : Counts). x .terms) same)
+    let is : c ≡ record { definitions = s .definitions; events = s .events; terms = length (s .terms) } = cc in
+    (s, refl, ap (λ (x : Counts). x .terms) is)
 answer-accepts (refused m k) c e = let z : _≡_ {A = ℕ} 0 1 = cc in absurd (omega arith)
 
 -- a refusal leaves the columns as they were
@@ -146,29 +159,23 @@ pub zeros-column : (n : ℕ) (vs : List ℕ) → length vs ≤ n → sets (repli
 unfolding column
 zeros-column n vs h =
     sets-eq vs (replicate n 0) 0 (omega (arith, length-replicate {A = ℕ} n 0))
-    ∙ ap (λ (l : List ℕ). vs ++ l) (ap (λ (m : ℕ). drop m (replicate n 0)) (zero-add (length vs)) ∙ drop-zeros (length vs) n)
+    ∙ ap (λ (l : List ℕ). vs ++ l)
+    (ap (λ (m : ℕ). drop m (replicate n 0)) (zero-add (length vs)) ∙ drop-zeros (length vs) n)
 
 -- an accepted table fills them
-pub accepts : (t : List ℕ) (s : Sofar) (x : Checked) (k p o a r k₀ p₀ o₀ a₀ r₀ : List ℕ) → judged t ≡ accepted s → x ≡ answer (judged t)
-    → Filled s k p o r (replicate 1024 0) (replicate 1024 0) (replicate 1024 0) (replicate 64 0) → (n : ℕ) → n ≡ length (s .terms) → a ≡ walked n k (replicate 1024 0)
+pub accepts : (t : List ℕ) (s : Sofar) (x : Checked) (k p o a r k₀ p₀ o₀ a₀ r₀ : List ℕ)
+    → judged t ≡ accepted s → x ≡ answer (judged t)
+    → Filled s k p o r (replicate 1024 0) (replicate 1024 0) (replicate 1024 0) (replicate 64 0) → (n : ℕ)
+    → n ≡ length (s .terms) → a ≡ walked n k (replicate 1024 0)
     → (x ≡ answer (judged t)) × ((k ≡ left kinds (judged t) k₀) × ((p ≡ left payloads (judged t) p₀)
     × ((o ≡ left owners (judged t) o₀) × ((a ≡ left afters (judged t) a₀) × (r ≡ left roots (judged t) r₀)))))
 unfolding left kinds payloads owners afters roots
 accepts t s x k p o a r k₀ p₀ o₀ a₀ r₀ e q f m c w =
-    let n : (of : Item → ℕ) → length (map of (s .terms)) ≤ 1024 = λ of. rw (length-map (s .terms) of) (f .terms-fit) in
-    let ks : k ≡ kinds s = f .kinds-are ∙ zeros-column 1024 _ (n (λ (i : Item). i .kind)) in (
-      q,
-      (
-        rw e ks,
-        (
-          rw e (f .payloads-are ∙ zeros-column 1024 _ (n (λ (i : Item). i .payload))),
-          (
-            rw e (f .owners-are ∙ zeros-column 1024 _ (n (λ (i : Item). i .definition))),
-            (
-              rw e (w ∙ ap₂ (λ (j : ℕ) (l : List ℕ). walked j l (replicate 1024 0)) c ks),
-              rw e (f .roots-are ∙ zeros-column 64 _ (f .roots-fit)),
-            ),
-          ),
-        ),
-      ),
-    )
+    let n : (of : Item → ℕ) → length (map of (s .terms)) ≤ 1024 =
+    λ of. rw (length-map (s .terms) of) (f .terms-fit) in
+    let ks : k ≡ kinds s = f .kinds-are ∙ zeros-column 1024 _ (n (λ (i : Item). i .kind)) in
+    let ps : p ≡ payloads s = f .payloads-are ∙ zeros-column 1024 _ (n (λ (i : Item). i .payload)) in
+    let os : o ≡ owners s = f .owners-are ∙ zeros-column 1024 _ (n (λ (i : Item). i .definition)) in
+    let fs : a ≡ afters s = w ∙ ap₂ (λ (j : ℕ) (l : List ℕ). walked j l (replicate 1024 0)) c ks in
+    let rs : r ≡ roots s = f .roots-are ∙ zeros-column 64 _ (f .roots-fit) in
+    (q, (rw e ks, (rw e ps, (rw e os, (rw e fs, rw e rs)))))

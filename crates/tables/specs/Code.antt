@@ -1,5 +1,6 @@
--- What taking a frame in does to what the loop keeps. The path lengths of the terms due are `depth`, of the next, and behind it the
--- others in the array `waiting`, the last of them first. `proofs/Kept.antt` shows that it is what `taken` says.
+-- What taking a frame in does to what the loop keeps. The path lengths of the terms due are `depth`, of the
+-- next, and behind it the others in the array `waiting`, the last of them first. `proofs/Kept.antt` shows
+-- that it is what `taken` says.
 use Prim.Native.Nat.{ℕ, _+_, _-_, _≤_}
 use mathlib.Core.Path.{_≡_}
 use mathlib.Core.List.{List, [], map}

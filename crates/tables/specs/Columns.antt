@@ -1,12 +1,11 @@
--- Where a checked table goes: a column for each thing that is known of a term, its number in preorder over the whole table, and
--- one for the definitions' roots. A refused table leaves the columns as they were.
+-- Where a checked table goes: a column for each thing that is known of a term, its number in preorder over
+-- the whole table, and one for the definitions' roots. A refused table leaves the columns as they were.
 use Prim.Native.Nat.{ℕ, zero, suc, _-_}
-use mathlib.Core.List.{List, [], _∷_, _++_, map}
+use mathlib.Core.List.{List, _++_, map}
 use lib.ListN.{length, getD, set, replicate}
 use Rattle.frames.specs.Kind.{subterms}
 use Rattle.frames.specs.TableFrame.{term-room}
 use Rattle.tables.specs.Table.{Item, Sofar, Judged, accepted, refused}
-use Rattle.tables.specs.declared.Counts.{Counts}
 use Rattle.tables.specs.declared.Checked.{Checked}
 use Rattle.tables.specs.declared.Checked.the-variants.{Accepted, Refused}
 

@@ -1,5 +1,5 @@
--- Document 01, 'Lines' (Table), 'Room' and 'Numbers of refusal', 1 to 6: what a table's text says, or the refusal of its first
--- failing line.
+-- Document 01, 'Lines' (Table), 'Room' and 'Numbers of refusal', 1 to 6: what a table's text says, or the
+-- refusal of its first failing line.
 use Prim.Native.Nat.{ℕ, _+_, _-_}
 use mathlib.Core.List.{List, [], _∷_, _++_}
 use mathlib.Core.Option.{Option, none, some}
@@ -22,8 +22,8 @@ pub record Item : Type 0 where
   pub kind : ℕ
   pub payload : ℕ
 
--- what the lines so far have said: line 1's two numbers; for each definition begun, how many terms stand before it; the terms;
--- and the path lengths of the terms that the definition begun still lacks, the next one first
+-- what the lines so far have said: line 1's two numbers; for each definition begun, how many terms stand before
+-- it; the terms; and the path lengths of the terms that the definition begun still lacks, the next one first
 pub record Sofar : Type 0 where
   pub definitions : ℕ
   pub events : ℕ
@@ -47,7 +47,8 @@ seen s = record {
   depth = next-due (s .due);
 }
 
--- what is said once a frame is taken in. A definition's root is due at the empty path; a term's subterms at one digit more
+-- what is said once a frame is taken in. A definition's root is due at the empty path; a
+-- term's subterms at one digit more
 unfoldable pub taken : Sofar → Frame → Sofar
 taken s Wrong = s
 taken s (Opening ed dd ee) =

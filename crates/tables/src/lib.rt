@@ -1,10 +1,9 @@
-// Tables of terms: a table's text is judged, and a good one becomes columns: for each term its kind, its payload, the
-// definition that it stands in and the term behind it, and for each definition its root.
-// It relies on the line finder for where a line ends and what its bytes are.
+// Tables of terms: a table's text is judged, and a good one becomes columns: for each term its kind, its
+// payload, the definition that it stands in and the term behind it, and for each definition its root. It
+// relies on the line finder for where a line ends and what its bytes are.
 mod taking;
 mod walking;
 
-use frames::Frame;
 use frames::Opened;
 use frames::Said;
 use frames::Seen;
@@ -42,9 +41,9 @@ pub enum Checked {
     Refused { number: u8, line: usize },
 }
 
-// Checks a table's text. Where it is accepted, the columns hold the table: `kinds`, `payloads` and `owners`, the definition
-// that each term stands in, `after`, the term behind each term and its subterms, and `roots`, each definition's first term;
-// zeros stand behind. A refusal leaves every column as it was.
+// Checks a table's text. Where it is accepted, the columns hold the table: `kinds`, `payloads` and `owners`,
+// the definition that each term stands in, `after`, the term behind each term and its subterms, and `roots`,
+// each definition's first term; zeros stand behind. A refusal leaves every column as it was.
 pub fn check(
     text: &[u8],
     kinds: &mut [u8; 1024],
@@ -54,11 +53,16 @@ pub fn check(
     roots: &mut [u16; 64],
 ) -> Checked
     ensures { λ r. ⌜ r ≡ answer (judged (now (text .entry))) ⌝ }
-    ensures { λ _. ⌜ now (kinds .exit) ≡ left columns.kinds (judged (now (text .entry))) (now (kinds .entry)) ⌝ }
-    ensures { λ _. ⌜ now (payloads .exit) ≡ left columns.payloads (judged (now (text .entry))) (now (payloads .entry)) ⌝ }
-    ensures { λ _. ⌜ now (owners .exit) ≡ left columns.owners (judged (now (text .entry))) (now (owners .entry)) ⌝ }
-    ensures { λ _. ⌜ now (after .exit) ≡ left columns.afters (judged (now (text .entry))) (now (after .entry)) ⌝ }
-    ensures { λ _. ⌜ now (roots .exit) ≡ left columns.roots (judged (now (text .entry))) (now (roots .entry)) ⌝ }
+    ensures { λ _. ⌜ now (kinds .exit)
+        ≡ left columns.kinds (judged (now (text .entry))) (now (kinds .entry)) ⌝ }
+    ensures { λ _. ⌜ now (payloads .exit)
+        ≡ left columns.payloads (judged (now (text .entry))) (now (payloads .entry)) ⌝ }
+    ensures { λ _. ⌜ now (owners .exit)
+        ≡ left columns.owners (judged (now (text .entry))) (now (owners .entry)) ⌝ }
+    ensures { λ _. ⌜ now (after .exit)
+        ≡ left columns.afters (judged (now (text .entry))) (now (after .entry)) ⌝ }
+    ensures { λ _. ⌜ now (roots .exit)
+        ≡ left columns.roots (judged (now (text .entry))) (now (roots .entry)) ⌝ }
 {
     if TEXT_ROOM < text.len() {
         return Checked::Refused { number: 6, line: 0 };
@@ -114,8 +118,10 @@ fn body(
     roots: &mut [u16; 64],
 ) -> Checked
     requires { ⌜ definitions ≤ 64 ⌝ }
-    ensures { λ r. ⌜ r ≡ answer (table.rest (begins definitions events) 2 (lines (drop from (now (text .entry))))) ⌝ }
-    ensures { λ _. ⌜ ((s : Sofar) → table.rest (begins definitions events) 2 (lines (drop from (now (text .entry)))) ≡ accepted s
+    ensures { λ r. ⌜ r
+        ≡ answer (table.rest (begins definitions events) 2 (lines (drop from (now (text .entry))))) ⌝ }
+    ensures { λ _. ⌜ ((s : Sofar)
+        → table.rest (begins definitions events) 2 (lines (drop from (now (text .entry)))) ≡ accepted s
         → Filled s (now (kinds .exit)) (now (payloads .exit)) (now (owners .exit)) (now (roots .exit))
         (now (kinds .entry)) (now (payloads .entry)) (now (owners .entry)) (now (roots .entry))) ⌝ }
 {
@@ -149,7 +155,8 @@ fn body(
 
 // Behind the last line nothing may stand.
 fn closed(text: &[u8], at: usize, s: Seen, line: usize) -> Checked
-    ensures { λ r. ⌜ ((t : Sofar) → s ≡ seen t → r ≡ answer (table.behind t line (lines (drop at (now (text .entry)))))) ⌝ }
+    ensures { λ r. ⌜ ((t : Sofar) → s ≡ seen t
+        → r ≡ answer (table.behind t line (lines (drop at (now (text .entry)))))) ⌝ }
 {
     let found = next_line(text, at);
     match found {

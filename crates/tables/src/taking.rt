@@ -4,8 +4,8 @@ use frames::Seen;
 use frames::subterms;
 ghost use mathlib.Core.Path.{_≡_};
 ghost use Prim.Native.Nat.{_+_, _-_, _<_, _≤_};
-ghost use lib.ListN.{set};
-ghost use Rattle.tables.specs.Code.{Ready, topmost, owed, pushed, started, seen-then, waiting-then, roots-then, column-then};
+ghost use Rattle.tables.specs.Code.{Ready, topmost, owed, pushed, started, seen-then, waiting-then};
+ghost use Rattle.tables.specs.Code.{roots-then, column-then};
 
 // Takes a frame in that meets no refusal.
 pub fn take(

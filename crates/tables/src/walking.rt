@@ -1,4 +1,5 @@
-// The preorder walk over a table's terms, from the last to the first: which term stands behind each term and its subterms.
+// The preorder walk over a table's terms, from the last to the first: which term stands behind
+// each term and its subterms.
 use frames::subterms;
 ghost use mathlib.Core.Path.{_≡_};
 ghost use Prim.Native.Nat.{_≤_};

@@ -1,6 +1,6 @@
--- What the columns of a checked table hold. The walk goes over a tree by its subterms, the last first, and stores
--- in front of all that it has stored, so what it has shown stays so: at each term stands the number of the term
--- behind its tree, and each definition's tree is held from its root on. Assumes nothing.
+-- What the columns of a checked table hold. The walk goes over a tree by its subterms, the last first, and
+-- stores in front of all that it has stored, so what it has shown stays so: at each term stands the number of
+-- the term behind its tree, and each definition's tree is held from its root on. Assumes nothing.
 use Prim.Native.Nat.{ℕ, zero, suc, _+_, _-_, _≤_, _<_}
 use mathlib.Core.Path.{_≡_, refl, sym, ap, _∙_}
 use mathlib.Core.List.{List, [], _∷_, _++_, map}
@@ -80,7 +80,8 @@ module _ (ks ps : List ℕ) where
 abbrev Laid : List ℕ → List ℕ → List ℕ → ℕ → List Item → Type 0
 Laid ks ps os i [] = Unit {0}
 Laid ks ps os i (x ∷ xs) =
-    ((getD ks i 0 ≡ x .kind) × (getD ps i 0 ≡ x .payload) × (getD os i 0 ≡ x .definition)) × Laid ks ps os (suc i) xs
+    ((getD ks i 0 ≡ x .kind) × (getD ps i 0 ≡ x .payload) × (getD os i 0 ≡ x .definition))
+    × Laid ks ps os (suc i) xs
 
 laid-shift : (k p o : ℕ) (ks ps os : List ℕ) (i : ℕ) (xs : List Item) → Laid ks ps os i xs
     → Laid (k ∷ ks) (p ∷ ps) (o ∷ os) (suc i) xs
@@ -237,7 +238,8 @@ all-preorder : (d : ℕ) (t : Term) → AllOf d (preorder d t)
 unfolding preorder
 all-preorder d (leaf l) = (refl, tt)
 all-preorder d (prefix e t) = (refl, all-preorder d t)
-all-preorder d (binary o t u) = (refl, all-both d (preorder d t) (preorder d u) (all-preorder d t) (all-preorder d u))
+all-preorder d (binary o t u) =
+    (refl, all-both d (preorder d t) (preorder d u) (all-preorder d t) (all-preorder d u))
 
 -- a tree in the columns: held from number i on, its terms in definition k, all in front of number n
 pub record Stands (ks ps os xs : List ℕ) (i k n : ℕ) (t : Term) : Type 0 where
@@ -275,7 +277,8 @@ module _ (ks ps os xs : List ℕ) (n : ℕ) where
       })
   stands-at (u ∷ ts) d i (suc k) t e f h =
       let next : d + suc k ≡ suc d + k = omega arith in
-      rw next (stands-at ts (suc d) (i + size u) k t e (f .1) (laid-split ks ps os i d u (flat (suc d) ts) h .1))
+      let others = laid-split ks ps os i d u (flat (suc d) ts) h .1 in
+      rw next (stands-at ts (suc d) (i + size u) k t e (f .1) others)
 
 -- a column has zeros where it has no number
 zeros-at : (n k : ℕ) → getD {A = ℕ} (replicate n 0) k 0 ≡ 0
@@ -300,7 +303,8 @@ unfolding kinds payloads owners roots afters column
 checked-holds text s q k t e =
     let c : IsTable s = checked-trees text s q in
     let ts : List Term = definitions-of s in
-    let laid : Laid (kinds s) (payloads s) (owners s) 0 (flat 0 ts) = rw (c .all) (laid-front _ _ _ (s .terms)) in
+    let front = laid-front _ _ _ (s .terms) in
+    let laid : Laid (kinds s) (payloads s) (owners s) 0 (flat 0 ts) = rw (c .all) front in
     let many : length (s .terms) ≡ length (flat 0 ts) = ap length (sym (c .all)) in
     let room : length (s .terms) ≤ length {A = ℕ} (replicate term-room 0) =
     rw (length-replicate {A = ℕ} term-room 0) (c .few-terms) in

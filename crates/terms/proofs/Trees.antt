@@ -1,6 +1,7 @@
--- The terms of a checked table are trees in preorder. Line by line it holds that, whatever trees come for the
--- path lengths due, the terms so far and those trees behind them are complete definitions: a term's line makes one
--- tree of the trees due to it. At the last line nothing is due, so the terms are that themselves. Assumes nothing.
+-- The terms of a checked table are trees in preorder. Line by line it holds that, whatever trees come for
+-- the path lengths due, the terms so far and those trees behind them are complete definitions: a term's
+-- line makes one tree of the trees due to it. At the last line nothing is due, so the terms are that
+-- themselves. Assumes nothing.
 use Prim.Native.Nat.{ℕ, zero, suc, _+_, _-_, _≤_, _<_}
 use mathlib.Core.Path.{_≡_, refl, sym, ap, ap₂, _∙_}
 use mathlib.Core.Bool.{Bool, true, false, _&&_}
@@ -16,20 +17,19 @@ use Rattle.lines.specs.Line.{choose, number, Raw, frame, lines}
 use Rattle.lines.proofs.Digits.{both}
 use Rattle.frames.specs.Kind as Kind
 use Rattle.frames.specs.Kind.{known, payload-bytes, subterms}
-use Rattle.terms.specs.Term.{Leaf, call, SKIP, STOP, Operator, internal, external, sequence, parallel}
-use Rattle.terms.specs.Term.{Term, leaf, prefix, binary, leaf-kind, leaf-payload, leaf-of}
-use Rattle.terms.specs.Term.{operator-kind, operator-payload, operator-of, size, preorder, flat, starts}
-use Rattle.terms.specs.Term.{grown, trees, definitions-of, Shallow, LeafWithin, OperatorWithin, Within}
-use Rattle.frames.specs.TableFrame.{limit, longest, refusal, first-refusal}
-use Rattle.tables.specs.Table.{Item, Sofar, next-due, seen, taken}
-use Rattle.frames.specs.TableFrame.{closes, frame-of}
-use Rattle.tables.specs.Table.{unopened, held, verdict, Judged, accepted, refused}
-use Rattle.tables.specs.Table.{behind, rest, from-first, judged, text-room}
-use Rattle.tables.specs.Code.{begins}
+use Rattle.frames.specs.TableFrame.{limit, longest, refusal, first-refusal, closes, frame-of}
 use Rattle.frames.specs.declared.Frame.{Frame}
 use Rattle.frames.specs.declared.Frame.the-variants.{Opening, Definition, Term as TermLine, Closing, Wrong}
 use Rattle.frames.specs.declared.Seen.{Seen}
 use Rattle.frames.proofs.Fine.{FineTerm, fine-term, depth-fits, fine-definition, fine-closing}
+use Rattle.tables.specs.Table.{Item, Sofar, next-due, seen, taken, unopened, held, verdict}
+use Rattle.tables.specs.Table.{Judged, accepted, refused, behind, rest, from-first, judged, text-room}
+use Rattle.tables.specs.Code.{begins}
+use Rattle.tables.proofs.Loop.{behind-accepts}
+use Rattle.terms.specs.Term.{Leaf, call, SKIP, STOP, Operator, internal, external, sequence, parallel}
+use Rattle.terms.specs.Term.{Term, leaf, prefix, binary, leaf-kind, leaf-payload, leaf-of}
+use Rattle.terms.specs.Term.{operator-kind, operator-payload, operator-of, size, preorder, flat, starts}
+use Rattle.terms.specs.Term.{grown, trees, definitions-of, Shallow, LeafWithin, OperatorWithin, Within}
 
 abbrev item : ℕ → ℕ → ℕ → Item
 item d k p = record { definition = d; kind = k; payload = p }
@@ -239,7 +239,8 @@ first-due [] h = absurd (omega arith)
 first-due (n ∷ ns) h = refl
 
 module _ (s : Sofar) (grows : Grows s) where
-  complete-definition : (n : ℕ) → Complete s [] → (us : List Term) → Fit (s .definitions) (s .events) (0 ∷ []) us
+  complete-definition : (n : ℕ) → Complete s [] → (us : List Term)
+      → Fit (s .definitions) (s .events) (0 ∷ []) us
       → Complete (taken s (Definition n)) us
   unfolding taken
   complete-definition n c [] f = absurd f
@@ -366,11 +367,6 @@ unfolding verdict held
 met-none r none e = let z : _≡_ {A = ℕ} 0 1 = cc in absurd (omega arith)
 met-none r (some bs) e = eqb-true (r (frame-of bs)) 0 e
 
-behind-same : (s : Sofar) (n : ℕ) (ls : List Raw) (t : Sofar) → behind s n ls ≡ accepted t → s ≡ t
-unfolding behind
-behind-same s n [] t e = cc
-behind-same s n (l ∷ ls) t e = let z : _≡_ {A = ℕ} 0 1 = cc in absurd (omega arith)
-
 -- a line that meets no refusal goes on, or is the last
 line-table : (f : Frame) (s : Sofar) (n : ℕ) (ls : List Raw) (t : Sofar) → Grows s → Known f
     → refusal f (seen s) ≡ 0 → (Grows (taken s f) → rest (taken s f) n ls ≡ accepted t → IsTable t)
@@ -380,7 +376,7 @@ line-table Wrong s n ls t g h e on q = let z : _≡_ {A = ℕ} 2 0 = e in absurd
 line-table (Opening ed dd ee) s n ls t g h e on q = let z : _≡_ {A = ℕ} 2 0 = e in absurd (omega arith)
 line-table (Definition m) s n ls t g h e on q = on (grows-definition s g m e) q
 line-table (TermLine k p) s n ls t g h e on q = on (grows-term s g k p h e) q
-line-table (Closing m) s n ls t g h e on q = rw (behind-same s n ls t q) at (is-table s g m e)
+line-table (Closing m) s n ls t g h e on q = rw (behind-accepts s t n ls q) at (is-table s g m e)
 
 rest-table : (ls : List Raw) (s : Sofar) (n : ℕ) (t : Sofar) → Grows s → rest s n ls ≡ accepted t → IsTable t
 unfolding rest

@@ -1,9 +1,9 @@
--- The terms of a table as trees. Document 01, 'Lines': a definition's terms stand in preorder; Fig. 2 of the report has their forms.
+-- The terms of a table as trees. Document 01, 'Lines': a definition's terms stand in preorder; Fig. 2 of the
+-- report has their forms.
 use Prim.Native.Nat.{ℕ, zero, suc, _+_, _≤_, _<_, _^_}
 use mathlib.Core.Path.{_≡_}
-use mathlib.Core.Bool.{Bool, true, false}
 use mathlib.Core.List.{List, [], _∷_, _++_}
-use lib.ListN.{length, getD}
+use lib.ListN.{getD}
 use lib.Dec.{eqb}
 use Rattle.lines.specs.Line.{choose}
 use Rattle.frames.specs.Kind as Kind
@@ -61,7 +61,8 @@ unfoldable pub preorder : ℕ → Term → List Item
 preorder d (leaf l) = record { definition = d; kind = leaf-kind l; payload = leaf-payload l } ∷ []
 preorder d (prefix e t) = record { definition = d; kind = Kind.prefix; payload = e } ∷ preorder d t
 preorder d (binary o t u) =
-    record { definition = d; kind = operator-kind o; payload = operator-payload o } ∷ preorder d t ++ preorder d u
+    record { definition = d; kind = operator-kind o; payload = operator-payload o }
+    ∷ preorder d t ++ preorder d u
 
 -- definitions from number d on, one behind the other
 unfoldable pub flat : ℕ → List Term → List Item
@@ -123,12 +124,15 @@ Within d e (leaf l) = LeafWithin d l
 Within d e (prefix n t) = (n < e) × Within d e t
 Within d e (binary o t u) = OperatorWithin e o × (Within d e t × Within d e u)
 
--- columns that hold a term at number i: its kind and payload, its subterms, and the number of the term behind it
+-- columns that hold a term at number i: its kind and payload, its subterms, and the
+-- number of the term behind it
 abbrev pub Holds : List ℕ → List ℕ → List ℕ → ℕ → Term → Type 0
 Holds ks ps xs i (leaf l) =
     (getD ks i 0 ≡ leaf-kind l) × (getD ps i 0 ≡ leaf-payload l) × (getD xs i 0 ≡ suc i)
 Holds ks ps xs i (prefix e t) =
-    (getD ks i 0 ≡ Kind.prefix) × (getD ps i 0 ≡ e) × (getD xs i 0 ≡ getD xs (suc i) 0) × Holds ks ps xs (suc i) t
+    (getD ks i 0 ≡ Kind.prefix) × (getD ps i 0 ≡ e) × (getD xs i 0 ≡ getD xs (suc i) 0)
+    × Holds ks ps xs (suc i) t
 Holds ks ps xs i (binary o t u) =
-    (getD ks i 0 ≡ operator-kind o) × (getD ps i 0 ≡ operator-payload o) × (getD xs i 0 ≡ getD xs (getD xs (suc i) 0) 0)
+    (getD ks i 0 ≡ operator-kind o) × (getD ps i 0 ≡ operator-payload o)
+    × (getD xs i 0 ≡ getD xs (getD xs (suc i) 0) 0)
     × Holds ks ps xs (suc i) t × Holds ks ps xs (getD xs (suc i) 0) u

@@ -1,3 +1,5 @@
+-- `frames::failure_of` meets its contract: each arm knows the variant, and its number is what `failure` has
+-- for it. Assumes nothing.
 use mathlib.Core.Path.{sym, ap}
 use Rattle.frames.specs.Code.{failure}
 use borrow.Author.Needs.{needs}

@@ -1,3 +1,5 @@
+-- `frames::stop_of` meets its contract: each arm knows the variant, and its number is what `stop` has for it.
+-- Assumes nothing.
 use mathlib.Core.Path.{sym, ap}
 use Rattle.frames.specs.Code.{stop}
 use borrow.Author.Needs.{needs}

@@ -1,3 +1,5 @@
+-- `judge::judge` does nothing undefined: the table's text ends inside the input, so both parts of the input are
+-- there to be lent. Assumes nothing but what `io` does.
 use mathlib.Core.Path.{sym}
 use lib.Seq.{length-take-le}
 use borrow.Author.Needs.{needs}

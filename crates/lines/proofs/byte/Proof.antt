@@ -1,5 +1,5 @@
--- `lines::byte` meets its contract: where the characters have byte number k, both of its characters can be read and
--- `byte_of` makes the byte of them; where they do not, both sides are 0. Assumes nothing.
+-- `lines::byte` meets its contract: where the characters have byte number k, both of its characters can be
+-- read and `byte_of` makes the byte of them; where they do not, both sides are 0. Assumes nothing.
 use mathlib.Core.Path.{_∙_}
 use Rattle.lines.proofs.Laws.{byte-some, byte-none}
 use borrow.Author.Needs.{needs}

@@ -1,5 +1,5 @@
--- `lines::characters` meets its contract: the tests tell whether the text has the part, and each `return` hands out the
--- part or what stands behind the text's end, which is nothing. Assumes nothing.
+-- `lines::characters` meets its contract: the tests tell whether the text has the part, and each `return`
+-- hands out the part or what stands behind the text's end, which is nothing. Assumes nothing.
 use Rattle.lines.proofs.Laws.{part-some, part-backward, part-past}
 use borrow.Author.Needs.{needs}
 use Rattle.lines.proofs.characters.Statement.{statement}

@@ -1,5 +1,5 @@
--- `lines::digit_value` meets its contract: at each `return` the tests on the way say on which side of 48, 57, 97 and 102
--- the character is, and with that `digit` computes. Assumes nothing.
+-- `lines::digit_value` meets its contract: at each `return` the tests on the way say on which side of 48, 57,
+-- 97 and 102 the character is, and with that `digit` computes. Assumes nothing.
 use borrow.Author.Tests.{le-leb, lt-leb}
 use borrow.Author.Needs.{needs}
 use native.Mathlib.Omega.{arith}

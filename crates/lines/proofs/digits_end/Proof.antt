@@ -1,5 +1,5 @@
--- `lines::digits_end` meets its contract. The loop's invariant: the run of digits from i on ends where the run from the
--- start does; one digit more leaves that so. The measure is what is left of the text. Assumes nothing.
+-- `lines::digits_end` meets its contract. The loop's invariant: the run of digits from i on ends where the run
+-- from the start does; one digit more leaves that so. The measure is what is left of the text. Assumes nothing.
 use Prim.Native.Nat.{_≤_, _-_, _+_}
 use mathlib.Core.Path.{_≡_}
 use borrow.Author.Needs.{needs}
@@ -44,7 +44,9 @@ loop-again c =
     omega (arith, run-more s i (search needs) (omega arith))
 
 returns-2 : tie.Need-returns-2 Inv-loop μ-loop
-returns-2 c = omega (arith, run-end (c .before .before .before .args .text .now) (c .before .loop .i) (search needs))
+returns-2 c =
+    let s = c .before .before .before .args .text .now in
+    omega (arith, run-end s (c .before .loop .i) (search needs))
 
 pub digits-end-spec : {M : Type 1} → statement M
 digits-end-spec =

@@ -1,5 +1,5 @@
--- `lines::next_line` meets its contract: each `return` stands behind the tests that say what ends the run of digits, and
--- a law of `Laws` says what the first line then is. Assumes nothing.
+-- `lines::next_line` meets its contract: each `return` stands behind the tests that say what ends the run of
+-- digits, and a law of `Laws` says what the first line then is. Assumes nothing.
 use mathlib.Core.Path.{sym}
 use Rattle.lines.proofs.Laws.{answer-end, answer-unended, answer-no-digit}
 use Rattle.lines.proofs.Laws.{answer-empty, answer-odd, answer-found}
@@ -15,42 +15,48 @@ digits-end-requires c κs = search needs
 
 returns-2 : tie.Need-returns-2
 returns-2 c =
-    let d = c .before .digits-end .ensures .0 in
-    sym (answer-unended _ _ _ (c .before .before .if1 .left) d (c .if2 .taken))
+    let run = c .before .digits-end .ensures .0 in
+    sym (answer-unended _ _ _ (c .before .before .if1 .left) run (c .if2 .taken))
 
 shared-slice-read-if3 : tie.Need-shared-slice-read-if3
 shared-slice-read-if3 c = search needs
 
 returns-3 : tie.Need-returns-3
 returns-3 c =
-    let p = c .before .before in
-    let d = p .before .digits-end .ensures .0 in
-    sym (answer-no-digit _ _ _ (p .before .before .if1 .left) d (p .if2 .left) (c .if3 .taken))
+    let at-end = c .before .before in
+    let run = at-end .before .digits-end .ensures .0 in
+    let inside = at-end .before .before .if1 .left in
+    sym (answer-no-digit _ _ _ inside run (at-end .if2 .left) (c .if3 .taken))
 
 sub-count : tie.Need-sub-count
 sub-count c = search needs
 
 returns-4 : tie.Need-returns-4
 returns-4 c =
-    let p = c .before .before .before in
-    let d = p .before .digits-end .ensures .0 in
-    sym (answer-empty _ _ _ (p .before .before .if1 .left) d (p .if2 .left) (c .before .if3 .left) (c .if4 .taken))
+    let at-end = c .before .before .before in
+    let run = at-end .before .digits-end .ensures .0 in
+    let inside = at-end .before .before .if1 .left in
+    let feed = c .before .if3 .left in
+    sym (answer-empty _ _ _ inside run (at-end .if2 .left) feed (c .if4 .taken))
 
 returns-5 : tie.Need-returns-5
 returns-5 c =
-    let p = c .before .before .before .before in
-    let d = p .before .digits-end .ensures .0 in
-    sym (answer-odd _ _ _ (p .before .before .if1 .left) d (p .if2 .left) (c .before .before .if3 .left) (c .if5 .taken))
+    let at-end = c .before .before .before .before in
+    let run = at-end .before .digits-end .ensures .0 in
+    let inside = at-end .before .before .if1 .left in
+    let feed = c .before .before .if3 .left in
+    sym (answer-odd _ _ _ inside run (at-end .if2 .left) feed (c .if5 .taken))
 
 add-t5 : tie.Need-add-t5
 add-t5 c = search needs
 
 returns-6 : tie.Need-returns-6
 returns-6 c =
-    let p = c .before .before .before .before in
-    let d = p .before .digits-end .ensures .0 in
+    let at-end = c .before .before .before .before in
+    let run = at-end .before .digits-end .ensures .0 in
+    let inside = at-end .before .before .if1 .left in
     let feed = c .before .before .if3 .left in
-    sym (answer-found _ _ _ (p .before .before .if1 .left) d (p .if2 .left) feed (c .before .if4 .left) (c .if5 .left))
+    sym (answer-found _ _ _ inside run (at-end .if2 .left) feed (c .before .if4 .left) (c .if5 .left))
 
 pub next-line-spec : {M : Type 1} → statement M
 next-line-spec =

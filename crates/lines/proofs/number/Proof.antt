@@ -1,5 +1,5 @@
--- `lines::number` meets its contract. The loop's invariant: what was read, and then the characters from 2 k on, make the
--- number of all the characters. The measure is how many bytes are left. Assumes nothing.
+-- `lines::number` meets its contract. The loop's invariant: what was read, and then the characters from 2 k
+-- on, make the number of all the characters. The measure is how many bytes are left. Assumes nothing.
 use Prim.Native.Nat.{_≤_, _-_, _*_, _/_}
 use mathlib.Core.Path.{_≡_, _∙_, sym}
 use borrow.Author.Needs.{needs}

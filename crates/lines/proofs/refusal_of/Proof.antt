@@ -1,5 +1,5 @@
--- `lines::refusal_of` meets its contract: each arm knows the variant, and its number is what `refusal` has for it.
--- Assumes nothing.
+-- `lines::refusal_of` meets its contract: each arm knows the variant, and its number is what `refusal` has
+-- for it. Assumes nothing.
 use mathlib.Core.Path.{sym, ap}
 use borrow.Author.Needs.{needs}
 use Rattle.lines.specs.Line.{refusal}

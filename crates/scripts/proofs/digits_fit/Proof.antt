@@ -1,6 +1,6 @@
--- `scripts::digits_fit` meets its contract. The loop's invariant: all the digits are in range exactly where
--- those from byte k on are; each test settles byte k, and the measure is how many bytes are left. Assumes
--- nothing.
+-- `scripts::digits_fit` meets its contract. The loop's invariant: all the digits are in range
+-- exactly where those from byte k on are; each test settles byte k, and the measure is how many
+-- bytes are left. Assumes nothing.
 use Prim.Native.Nat.{ℕ, _-_, _/_}
 use mathlib.Core.Path.{_≡_, refl, sym, _∙_}
 use mathlib.Core.List.{List}

@@ -30,35 +30,41 @@ number-requires c κs = search needs
 
 returns-3 : tie.Need-returns-3
 returns-3 c bs e =
-    let p = c .before .before .before in
-    let tagged = sym (p .before .byte .ensures) ∙ p .if2 .left in
-    other-count _ bs e (p .before .before .if1 .left) tagged (λ q. c .if3 .taken (c .before .number .ensures ∙ q))
+    let tag = c .before .before .before in
+    let tagged = sym (tag .before .byte .ensures) ∙ tag .if2 .left in
+    other-count _ bs e (tag .before .before .if1 .left) tagged
+    (λ q. c .if3 .taken (c .before .number .ensures ∙ q))
 
 returns-4 : tie.Need-returns-4
 returns-4 c bs e =
-    let p = c .before .before .before .before in
-    let tagged = sym (p .before .byte .ensures) ∙ p .if2 .left in
-    let told = sym (c .before .before .number .ensures) ∙ c .before .if3 .left in
-    too-many _ bs e (p .before .before .if1 .left) tagged told (c .if4 .taken)
+    let count = c .before in
+    let tag = count .before .before .before in
+    let tagged = sym (tag .before .byte .ensures) ∙ tag .if2 .left in
+    let told = sym (count .before .number .ensures) ∙ count .if3 .left in
+    too-many _ bs e (tag .before .before .if1 .left) tagged told (c .if4 .taken)
 
 digits-fit-requires : tie.Need-digits-fit-requires
 digits-fit-requires c κs = search needs
 
 returns-5 : tie.Need-returns-5
 returns-5 c bs e =
-    let p = c .before .before .before .before .before .before in
-    let tagged = sym (p .before .byte .ensures) ∙ p .if2 .left in
-    let told = sym (c .before .before .before .before .number .ensures) ∙ c .before .before .before .if3 .left in
+    let room = c .before .before in
+    let count = room .before in
+    let tag = count .before .before .before in
+    let tagged = sym (tag .before .byte .ensures) ∙ tag .if2 .left in
+    let told = sym (count .before .number .ensures) ∙ count .if3 .left in
     let fit = sym (c .before .digits-fit .ensures bs e) ∙ not-true _ (c .if5 .taken) in
-    other-digit _ bs e (p .before .before .if1 .left) tagged told (c .before .before .if4 .left) fit
+    other-digit _ bs e (tag .before .before .if1 .left) tagged told (room .if4 .left) fit
 
 returns-6 : tie.Need-returns-6
 returns-6 c bs e =
-    let p = c .before .before .before .before .before .before in
-    let tagged = sym (p .before .byte .ensures) ∙ p .if2 .left in
-    let told = sym (c .before .before .before .before .number .ensures) ∙ c .before .before .before .if3 .left in
+    let room = c .before .before in
+    let count = room .before in
+    let tag = count .before .before .before in
+    let tagged = sym (tag .before .byte .ensures) ∙ tag .if2 .left in
+    let told = sym (count .before .number .ensures) ∙ count .if3 .left in
     let fit = sym (c .before .digits-fit .ensures bs e) ∙ not-false _ (c .if5 .left) in
-    step-asked _ bs e (p .before .before .if1 .left) tagged told (c .before .before .if4 .left) fit
+    step-asked _ bs e (tag .before .before .if1 .left) tagged told (room .if4 .left) fit
 
 pub judge-spec : {M : Type 1} → statement M
 judge-spec =

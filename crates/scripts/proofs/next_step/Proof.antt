@@ -1,6 +1,6 @@
--- `scripts::next_step` meets its contract: what the finder and the judging ensure is what the laws of `Steps`
--- ask for, and they tell the answer and the digits that it leaves; where it leaves none, nothing is stored.
--- Assumes nothing.
+-- `scripts::next_step` meets its contract: what the finder and the judging ensure is what the laws of
+-- `Steps` ask for, and they tell the answer and the digits that it leaves; where it leaves none, nothing
+-- is stored. Assumes nothing.
 use mathlib.Core.Path.{sym, ap, _∙_}
 use borrow.Author.Needs.{needs}
 use lib.Seq.{sets}
@@ -31,29 +31,36 @@ judge-requires c κs = search needs
 
 returns-2 : tie.Need-returns-2
 returns-2 c =
-    let p = c .before .before in
-    let found = sym (p .before .before .before .before .next-line .ensures) ∙ p .before .before .line .given .1 in
-    let r = refused-line _ _ _ _ found _ (p .characters .ensures) _ (c .before .judge .ensures) (c .if1 .taken) in
+    let read = c .before .before in
+    let at-line = read .before .before in
+    let found = sym (at-line .before .before .next-line .ensures) ∙ at-line .line .given .1 in
+    let judged = c .before .judge .ensures in
+    let r = refused-line _ _ _ _ found _ (read .characters .ensures) _ judged (c .if1 .taken) in
     (r .told, sym (ap (sets _ 0) (r .bare)))
 
 sub-count : tie.Need-sub-count
 sub-count c =
-    let p = c .before .before in
-    let found = sym (p .before .before .before .before .next-line .ensures) ∙ p .before .before .line .given .1 in
-    step-line _ _ _ _ found _ (p .characters .ensures) _ (c .before .judge .ensures) (c .if1 .left) .long
+    let read = c .before .before in
+    let at-line = read .before .before in
+    let found = sym (at-line .before .before .next-line .ensures) ∙ at-line .line .given .1 in
+    let judged = c .before .judge .ensures in
+    step-line _ _ _ _ found _ (read .characters .ensures) _ judged (c .if1 .left) .long
 
 write-digits-requires : tie.Need-write-digits-requires
 write-digits-requires c κs =
-    let p = c .before .before .before in
-    let found = sym (p .before .before .before .before .next-line .ensures) ∙ p .before .before .line .given .1 in
-    step-line _ _ _ _ found _ (p .characters .ensures) _ (c .before .before .judge .ensures) (c .before .if1 .left) .few
+    let read = c .before .before .before in
+    let at-line = read .before .before in
+    let found = sym (at-line .before .before .next-line .ensures) ∙ at-line .line .given .1 in
+    let judged = c .before .before .judge .ensures in
+    step-line _ _ _ _ found _ (read .characters .ensures) _ judged (c .before .if1 .left) .few
 
 returns-3 : tie.Need-returns-3
 returns-3 c =
-    let p = c .before .before .before .before in
-    let found = sym (p .before .before .before .before .next-line .ensures) ∙ p .before .before .line .given .1 in
+    let read = c .before .before .before .before in
+    let at-line = read .before .before in
+    let found = sym (at-line .before .before .next-line .ensures) ∙ at-line .line .given .1 in
     let judged = c .before .before .before .judge .ensures in
-    let r = step-line _ _ _ _ found _ (p .characters .ensures) _ judged (c .before .before .if1 .left) in
+    let r = step-line _ _ _ _ found _ (read .characters .ensures) _ judged (c .before .before .if1 .left) in
     (r .told, c .write-digits .ensures (r .held) (r .stands) (r .counted) ∙ sym (ap (sets _ 0) (r .stored)))
 
 pub next-step-spec : {M : Type 1} → statement M

@@ -1,6 +1,10 @@
+-- `tables::check` meets its contract. A text over its room, one whose line 1 fails and one whose lines behind
+-- it are refused leave the columns as they were; else what `body` and `walk` leave in the check's own columns
+-- is what the table's columns are. Assumes nothing.
 use mathlib.Core.Path.{_∙_, sym, ap, refl}
 use Rattle.tables.specs.Columns.{answer}
-use Rattle.tables.proofs.Whole.{table-opens, table-fails, judged-within, judged-over, answer-refuses, answer-accepts, refuses, accepts, failure-is}
+use Rattle.tables.proofs.Whole.{table-opens, table-fails, judged-within, judged-over, answer-refuses}
+use Rattle.tables.proofs.Whole.{answer-accepts, refuses, accepts, failure-is}
 use borrow.Author.Needs.{needs}
 use Rattle.tables.proofs.check.Statement.{statement}
 use Rattle.tables.proofs.check.Tie as tie
@@ -22,15 +26,15 @@ failure-of-requires c κs = search needs
 
 returns-2 : tie.Need-returns-2
 returns-2 c =
-    let p = c .before in
-    let p1 = p .before .before in
-    refuses _ _ _ _ _ _ _ _ (judged-within _ (p1 .before .if1 .left) ∙ table-fails _ _ (sym (p1 .first-line .ensures) ∙ failure-is _ _ _ (p .enum-told .given .1) (c .failure-of .ensures)))
+    let first = c .before .before .before in
+    let told = failure-is _ _ _ (c .before .enum-told .given .1) (c .failure-of .ensures) in
+    let fails = table-fails _ _ (sym (first .first-line .ensures) ∙ told) in
+    refuses _ _ _ _ _ _ _ _ (judged-within _ (first .before .if1 .left) ∙ fails)
 
 body-requires : tie.Need-body-requires
 body-requires c κs =
-    let p = c .before .before .before .before .before in
-    let p1 = p .before .before in
-    table-opens _ _ _ _ (sym (p1 .first-line .ensures) ∙ p .first .given .1) .1
+    let opens = c .before .before .before .before .before in
+    table-opens _ _ _ _ (sym (opens .before .before .first-line .ensures) ∙ opens .first .given .1) .1
 
 enum-known-checked : tie.Need-enum-known-checked
 enum-known-checked c = search needs
@@ -40,28 +44,34 @@ enum-told-2 c = search needs
 
 returns-3 : tie.Need-returns-3
 returns-3 c =
-    let p = c .before .before in
-    let p1 = p .before .before .before .before .before .before in
-    let p2 = p1 .before .before in
-    let all = judged-within _ (p2 .before .if1 .left) ∙ table-opens _ _ _ _ (sym (p2 .first-line .ensures) ∙ p1 .first .given .1) .0 in
-    (p .body .ensures .0 ∙ ap answer (sym all), refuses _ _ _ _ _ _ _ _ (all ∙ answer-refuses _ _ _ (sym (p .body .ensures .0) ∙ c .enum-told2 .given .1)) .1)
+    let judged = c .before .before in
+    let opens = judged .before .before .before .before .before .before in
+    let first = opens .before .before in
+    let body = table-opens _ _ _ _ (sym (first .first-line .ensures) ∙ opens .first .given .1) .0 in
+    let all = judged-within _ (first .before .if1 .left) ∙ body in
+    let told = judged .body .ensures .0 in
+    let over = answer-refuses _ _ _ (sym told ∙ c .enum-told2 .given .1) in
+    (told ∙ ap answer (sym all), refuses _ _ _ _ _ _ _ _ (all ∙ over) .1)
 
 walk-requires : tie.Need-walk-requires
 walk-requires c κs =
-    let p = c .before .before .before in
-    let p1 = p .before .before in
-    let acc = answer-accepts _ _ (sym (p1 .body .ensures .0) ∙ p .checked .given .1) in
-    (rw (acc .2) (p1 .body .ensures .1 (acc .0) (acc .1) .terms-fit), refl)
+    let good = c .before .before .before in
+    let judged = good .before .before .body .ensures in
+    let table = answer-accepts _ _ (sym (judged .0) ∙ good .checked .given .1) in
+    (rw (table .2) (judged .1 (table .0) (table .1) .terms-fit), refl)
 
 returns-4 : tie.Need-returns-4
 returns-4 c =
-    let p = c .before .before .before .before in
-    let p1 = p .before .before in
-    let p2 = p1 .before .before .before .before .before .before in
-    let p3 = p2 .before .before in
-    let all = judged-within _ (p3 .before .if1 .left) ∙ table-opens _ _ _ _ (sym (p3 .first-line .ensures) ∙ p2 .first .given .1) .0 in
-    let acc = answer-accepts _ _ (sym (p1 .body .ensures .0) ∙ p .checked .given .1) in
-    accepts _ (acc .0) _ _ _ _ _ _ _ _ _ _ _ (all ∙ acc .1) (sym (p .checked .given .1) ∙ p1 .body .ensures .0 ∙ ap answer (sym all)) (p1 .body .ensures .1 (acc .0) (acc .1)) _ (acc .2) (c .walk .ensures)
+    let good = c .before .before .before .before in
+    let opens = good .before .before .before .before .before .before .before .before in
+    let first = opens .before .before in
+    let body = table-opens _ _ _ _ (sym (first .first-line .ensures) ∙ opens .first .given .1) .0 in
+    let all = judged-within _ (first .before .if1 .left) ∙ body in
+    let judged = good .before .before .body .ensures in
+    let table = answer-accepts _ _ (sym (judged .0) ∙ good .checked .given .1) in
+    let told = sym (good .checked .given .1) ∙ judged .0 ∙ ap answer (sym all) in
+    let filled = judged .1 (table .0) (table .1) in
+    accepts _ (table .0) _ _ _ _ _ _ _ _ _ _ _ (all ∙ table .1) told filled _ (table .2) (c .walk .ensures)
 
 pub check-spec : {M : Type 1} → statement M
 check-spec =

@@ -1,5 +1,5 @@
--- `frames::judging::first_line` meets its contract. What each call promises makes the text's first line none, a line with
--- another frame, or line 1 with its numbers outside or inside their ranges. Assumes nothing.
+-- `frames::judging::first_line` meets its contract. What each call promises makes the text's first line none,
+-- a line with another frame, or line 1 with its numbers outside or inside their ranges. Assumes nothing.
 use Rattle.frames.proofs.Cursor.{opened-none, opened-other, opened-first}
 use borrow.Author.Needs.{needs}
 use Rattle.frames.proofs.judging.first_line.Statement.{statement}
@@ -15,7 +15,9 @@ refusal-of-requires : tie.Need-refusal-of-requires
 refusal-of-requires c κs = search needs
 
 returns : tie.Need-returns
-returns c = opened-none _ 0 (c .before .before .next-line .ensures) (c .before .match .keys2) (c .refusal-of .ensures)
+returns c =
+    let at-line = c .before in
+    opened-none _ 0 (at-line .before .next-line .ensures) (at-line .match .keys2) (c .refusal-of .ensures)
 
 characters-requires : tie.Need-characters-requires
 characters-requires c κs = search needs
@@ -28,10 +30,12 @@ enum-known-frame c = c .match2 .keys1
 
 returns-2 : tie.Need-returns-2
 returns-2 c =
-    opened-other _ _ _ (c .before .before .before .before .before .before .next-line .ensures)
-    (c .before .before .before .before .line .given .1)
-    (c .before .before .characters .ensures)
-    (c .before .read-frame .ensures)
+    let read = c .before in
+    let at-line = read .before .before .before in
+    opened-other _ _ _ (at-line .before .before .next-line .ensures)
+    (at-line .line .given .1)
+    (read .before .characters .ensures)
+    (read .read-frame .ensures)
     (c .match2 .keys2)
 
 opening-outside-requires : tie.Need-opening-outside-requires
@@ -39,11 +43,14 @@ opening-outside-requires c κs = search needs
 
 returns-3 : tie.Need-returns-3
 returns-3 c =
-    opened-first _ _ _ (c .before .before .before .before .before .before .before .before .before .before .next-line .ensures)
-    (c .before .before .before .before .before .before .before .before .line .given .1)
-    (c .before .before .before .before .before .before .characters .ensures)
-    (c .before .before .before .before .before .read-frame .ensures)
-    (c .before .before .before .frame .given .1)
+    let at-frame = c .before .before .before in
+    let read = at-frame .before .before in
+    let at-line = read .before .before .before in
+    opened-first _ _ _ (at-line .before .before .next-line .ensures)
+    (at-line .line .given .1)
+    (read .before .characters .ensures)
+    (read .read-frame .ensures)
+    (at-frame .frame .given .1)
     (c .before .opening-outside .ensures)
     (c .if1 .taken)
 
@@ -55,11 +62,14 @@ cast-t13 c = search needs
 
 returns-4 : tie.Need-returns-4
 returns-4 c =
-    opened-first _ _ _ (c .before .before .before .before .before .before .before .before .before .before .next-line .ensures)
-    (c .before .before .before .before .before .before .before .before .line .given .1)
-    (c .before .before .before .before .before .before .characters .ensures)
-    (c .before .before .before .before .before .read-frame .ensures)
-    (c .before .before .before .frame .given .1)
+    let at-frame = c .before .before .before in
+    let read = at-frame .before .before in
+    let at-line = read .before .before .before in
+    opened-first _ _ _ (at-line .before .before .next-line .ensures)
+    (at-line .line .given .1)
+    (read .before .characters .ensures)
+    (read .read-frame .ensures)
+    (at-frame .frame .given .1)
     (c .before .opening-outside .ensures)
     (c .if1 .left)
 

@@ -1,5 +1,5 @@
--- `frames::judging::opening_outside` meets its contract. Each return is the law of line 1 at the test where it stands.
--- Assumes nothing.
+-- `frames::judging::opening_outside` meets its contract. Each return is the law of line 1 at the test where
+-- it stands. Assumes nothing.
 use mathlib.Core.Path.{sym}
 use Rattle.frames.proofs.Refusals.{outside-edition, outside-none, outside-many, outside-events}
 use Rattle.frames.proofs.judging.opening_outside.Statement.{statement}

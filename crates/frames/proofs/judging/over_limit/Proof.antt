@@ -1,5 +1,5 @@
--- `frames::judging::over_limit` meets its contract. Each kind's test is against its limit; a set's is the power that the shift
--- makes, and where that has no room in 64 bits every payload is below it. Assumes nothing.
+-- `frames::judging::over_limit` meets its contract. Each kind's test is against its limit; a set's is the power
+-- that the shift makes, and where that has no room in 64 bits every payload is below it. Assumes nothing.
 use Rattle.frames.proofs.Refusals.{over-call, over-prefix, over-every, over-shifted, over-other}
 use borrow.Author.Needs.{needs}
 use Rattle.frames.proofs.judging.over_limit.Statement.{statement}

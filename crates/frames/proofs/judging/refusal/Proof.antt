@@ -1,5 +1,5 @@
--- `frames::judging::refusal` meets its contract. In each arm the frame is the arm's variant, whose number is promised by the
--- function called there or is the definition's 2. Assumes nothing.
+-- `frames::judging::refusal` meets its contract. In each arm the frame is the arm's variant, whose number is
+-- promised by the function called there or is the definition's 2. Assumes nothing.
 use mathlib.Core.Path.{_≡_, sym, ap, _∙_}
 use Rattle.frames.specs.TableFrame.{refusal}
 use Rattle.frames.specs.declared.Frame.{Frame}

@@ -1,5 +1,5 @@
--- `frames::judging::table_line` meets its contract. What each call promises makes the line at the cursor none, or one whose
--- frame is the one read and meets the number found. Assumes nothing.
+-- `frames::judging::table_line` meets its contract. What each call promises makes the line at the cursor
+-- none, or one whose frame is the one read and meets the number found. Assumes nothing.
 use Rattle.frames.specs.TableFrame.{refusal}
 use Rattle.frames.proofs.Cursor.{said-none, said-stops, said-goes}
 use borrow.Author.Needs.{needs}
@@ -16,7 +16,9 @@ refusal-of-requires : tie.Need-refusal-of-requires
 refusal-of-requires c κs = search needs
 
 returns : tie.Need-returns
-returns c = said-none _ _ (c .before .before .next-line .ensures) (c .before .match .keys2) _ (c .refusal-of .ensures)
+returns c =
+    let at-line = c .before in
+    said-none _ _ (at-line .before .next-line .ensures) (at-line .match .keys2) _ (c .refusal-of .ensures)
 
 characters-requires : tie.Need-characters-requires
 characters-requires c κs = search needs
@@ -29,21 +31,25 @@ refusal-requires c κs = search needs
 
 returns-2 : tie.Need-returns-2
 returns-2 c =
-    said-stops _ _ _ _ (c .before .before .before .before .before .before .before .next-line .ensures)
-    (c .before .before .before .before .before .line .given .1)
-    (c .before .before .before .characters .ensures)
-    (c .before .before .read-frame .ensures)
-    (λ f. refusal f (c .before .before .before .before .before .before .before .before .before .args .s))
+    let read = c .before .before in
+    let at-line = read .before .before .before in
+    said-stops _ _ _ _ (at-line .before .before .next-line .ensures)
+    (at-line .line .given .1)
+    (read .before .characters .ensures)
+    (read .read-frame .ensures)
+    (λ f. refusal f (at-line .before .before .before .before .args .s))
     (c .before .refusal .ensures)
     (c .if1 .taken)
 
 returns-3 : tie.Need-returns-3
 returns-3 c =
-    said-goes _ _ _ _ (c .before .before .before .before .before .before .before .next-line .ensures)
-    (c .before .before .before .before .before .line .given .1)
-    (c .before .before .before .characters .ensures)
-    (c .before .before .read-frame .ensures)
-    (λ f. refusal f (c .before .before .before .before .before .before .before .before .before .args .s))
+    let read = c .before .before in
+    let at-line = read .before .before .before in
+    said-goes _ _ _ _ (at-line .before .before .next-line .ensures)
+    (at-line .line .given .1)
+    (read .before .characters .ensures)
+    (read .read-frame .ensures)
+    (λ f. refusal f (at-line .before .before .before .before .args .s))
     (c .before .refusal .ensures)
     (c .if1 .left)
 

@@ -1,5 +1,5 @@
--- `frames::judging::too_deep` meets its contract. A prefix's event is one digit below the prefix, and any other term's literals
--- are where the term is. Assumes nothing.
+-- `frames::judging::too_deep` meets its contract. A prefix's event is one digit below the prefix, and any
+-- other term's literals are where the term is. Assumes nothing.
 use Rattle.frames.proofs.Refusals.{deep-prefix, deep-other}
 use Rattle.frames.proofs.judging.too_deep.Statement.{statement}
 use Rattle.frames.proofs.judging.too_deep.Tie as tie

@@ -1,5 +1,5 @@
--- `frames::kinds::subterms` meets its contract: the constant array is the list of the definition, which has 0 past its end.
--- Assumes nothing.
+-- `frames::kinds::subterms` meets its contract: the constant array is the list of the definition, which has 0
+-- past its end. Assumes nothing.
 use mathlib.Core.Path.{refl, sym}
 use borrow.Author.Needs.{needs}
 use lib.ListN.{List·getD-eq-default}

@@ -1,8 +1,9 @@
--- `frames::reading::read_term` meets its contract. The kind tells the shape, and the count of bytes whether the line has it; a
--- payload is at most eight bytes. Assumes nothing.
+-- `frames::reading::read_term` meets its contract. The kind tells the shape, and the count of bytes whether
+-- the line has it; a payload is at most eight bytes. Assumes nothing.
 use mathlib.Core.Path.{refl}
 use native.Mathlib.Omega.{arith}
-use Rattle.frames.proofs.Frames.{fits, misfits, term, no-kind, no-such-kind, payload-fits, byte-read, number-read}
+use Rattle.frames.proofs.KindLaws.{payload-most}
+use Rattle.frames.proofs.Frames.{fits, misfits, term, no-kind, no-such-kind, byte-read, number-read}
 use borrow.Author.Needs.{needs}
 use Rattle.frames.proofs.reading.read_term.Statement.{statement}
 use Rattle.frames.proofs.reading.read_term.Tie as tie
@@ -15,7 +16,8 @@ returns c = λ bs stands tag. no-kind bs (byte-read _ bs stands 1 (c .before .by
 
 returns-2 : tie.Need-returns-2
 returns-2 c = λ bs stands tag.
-    no-such-kind bs (byte-read _ bs stands 1 (c .before .before .byte .ensures)) tag (c .before .if1 .left) (c .if2 .taken)
+    let kind = byte-read _ bs stands 1 (c .before .before .byte .ensures) in
+    no-such-kind bs kind tag (c .before .if1 .left) (c .if2 .taken)
 
 payload-bytes-requires : tie.Need-payload-bytes-requires
 payload-bytes-requires c κs = search needs
@@ -28,13 +30,10 @@ add-want c = search needs
 
 returns-3 : tie.Need-returns-3
 returns-3 c = λ bs stands tag.
-    misfits _ bs stands
-    (term bs (byte-read _ bs stands 1 (c .before .before .before .before .byte .ensures))
-    (c .before .before .before .if1 .left)
-    (c .before .before .if2 .left)
-    (c .before .payload-bytes .ensures)
-    refl)
-    tag
+    let known = c .before .before in
+    let kind = byte-read _ bs stands 1 (known .before .before .byte .ensures) in
+    let width = c .before .payload-bytes .ensures in
+    misfits _ bs stands (term bs kind (known .before .if1 .left) (known .if2 .left) width refl) tag
     (c .if3 .taken)
 
 sub-number : tie.Need-sub-number
@@ -51,15 +50,13 @@ number-requires c κs = search needs
 
 returns-4 : tie.Need-returns-4
 returns-4 c = λ bs stands tag.
-    let small = payload-fits (c .before .before .before .before .before .before .byte .result) in
-    let payload = number-read _ bs stands 2 (omega (arith, c .before .before .before .payload-bytes .ensures)) (c .number .ensures) in
-    fits _ bs stands
-    (term bs (byte-read _ bs stands 1 (c .before .before .before .before .before .before .byte .ensures))
-    (c .before .before .before .before .before .if1 .left)
-    (c .before .before .before .before .if2 .left)
-    (c .before .before .before .payload-bytes .ensures)
-    payload)
-    tag
+    let known = c .before .before .before .before in
+    let read = known .before .before .byte in
+    let kind = byte-read _ bs stands 1 (read .ensures) in
+    let width = c .before .before .before .payload-bytes .ensures in
+    let few = payload-most (read .result) in
+    let payload = number-read _ bs stands 2 (omega (arith, width, few)) (c .number .ensures) in
+    fits _ bs stands (term bs kind (known .before .if1 .left) (known .if2 .left) width payload) tag
     (c .before .before .if3 .left)
 
 pub read-term-spec : {M : Type 1} → statement M

@@ -1,3 +1,5 @@
+-- `judge::input::line_end` meets its contract. The loop's invariant keeps the place inside the text, not in
+-- front of the line; the measure is what is left of the text. Assumes nothing.
 use borrow.Author.Needs.{needs}
 use Prim.Native.Nat.{_≤_, _-_}
 use lib.ListN.{length}

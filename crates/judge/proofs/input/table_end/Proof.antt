@@ -1,3 +1,5 @@
+-- `judge::input::table_end` meets its contract: each line ends behind its place and inside the text, so the
+-- loop stays inside and what is left of the text falls. Assumes nothing.
 use borrow.Author.Needs.{needs}
 use Prim.Native.Nat.{_≤_, _-_}
 use lib.ListN.{length}

@@ -1,3 +1,5 @@
+-- `judge::words::say_lefts` ends and does nothing undefined: the definition's number stays within 64, and
+-- what is left up to that falls. Assumes nothing but what `io` does.
 use borrow.Author.Needs.{needs}
 use Prim.Native.Nat.{_≤_, _-_}
 use Rattle.judge.proofs.words.say_lefts.Statement.{statement}

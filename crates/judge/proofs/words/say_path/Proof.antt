@@ -1,3 +1,5 @@
+-- `judge::words::say_path` ends and does nothing undefined: the digit's number stays within 64, the length of
+-- the array, and what is left up to that falls. Assumes nothing but what `io` does.
 use borrow.Author.Needs.{needs}
 use Prim.Native.Nat.{_≤_, _-_}
 use Rattle.judge.proofs.words.say_path.Statement.{statement}

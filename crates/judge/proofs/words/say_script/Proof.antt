@@ -1,3 +1,5 @@
+-- `judge::words::say_script` ends and does nothing undefined: the number of the line stays within one past
+-- the room of a script, and what is left up to that falls. Assumes nothing but what `io` does.
 use borrow.Author.Needs.{needs}
 use Prim.Native.Nat.{_≤_, _-_}
 use Rattle.judge.proofs.words.say_script.Statement.{statement}

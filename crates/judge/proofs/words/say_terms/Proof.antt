@@ -1,3 +1,5 @@
+-- `judge::words::say_terms` ends and does nothing undefined: the term's number stays within 1,024, the length
+-- of each column, and what is left up to that falls. Assumes nothing but what `io` does.
 use borrow.Author.Needs.{needs}
 use Prim.Native.Nat.{_≤_, _-_}
 use Rattle.judge.proofs.words.say_terms.Statement.{statement}

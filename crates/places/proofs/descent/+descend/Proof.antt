@@ -1,6 +1,6 @@
--- `places::descent::descend` meets its contract, by what the way from a term is at each test: at its end, out
--- of digits, at a leaf, or a step before the way from the subterm. The digits left fall at each call. Assumes
--- nothing.
+-- `places::descent::descend` meets its contract, by what the way from a term is at each test: at its
+-- end, out of digits, at a leaf, or a step before the way from the subterm. The digits left fall at
+-- each call. Assumes nothing.
 use Prim.Native.Nat.{ℕ, suc, _-_, _+_, _<_}
 use mathlib.Core.Path.{_≡_, _∙_, sym, ap}
 use Rattle.frames.specs.Kind.{subterms}

@@ -1,3 +1,4 @@
+-- `tables::taking::begin` meets its contract: its record is the one of the definition. Assumes nothing.
 use mathlib.Core.Path.{refl}
 use Rattle.tables.specs.Code.{started}
 use borrow.Author.Needs.{needs}

@@ -1,3 +1,4 @@
+-- `tables::taking::last` meets its contract: no others wait, or the last of them is read. Assumes nothing.
 use mathlib.Core.Path.{_∙_}
 use Rattle.tables.proofs.Taken.{topmost-none, topmost-last}
 use borrow.Author.Needs.{needs}

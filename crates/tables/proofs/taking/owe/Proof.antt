@@ -1,3 +1,5 @@
+-- `tables::taking::owe` meets its contract. A kind has none, one or two subterms, and for each count a law of
+-- `Taken` says what is due and what waits. Assumes nothing.
 use mathlib.Core.Path.{_≡_, _∙_, sym}
 use native.Mathlib.Omega.{arith}
 use Rattle.frames.specs.Kind.{subterms}
@@ -24,19 +26,21 @@ last-requires c κs = search needs
 
 returns : tie.Need-returns
 returns c =
-    let p = c .before .before in
-    let p1 = p .before .before .before .before in
-    let e : subterms (p1 .before .args .kind) ≡ 0 = sym (p1 .subterms .ensures) ∙ p .if1 .taken in
-    (owed-leaf _ _ _ e _ (c .last .ensures), pushed-not _ _ _ (λ z. omega arith))
+    let tested = c .before .before in
+    let counted = tested .before .before .before .before in
+    let kind = counted .before .args .kind in
+    let none : subterms kind ≡ 0 = sym (counted .subterms .ensures) ∙ tested .if1 .taken in
+    (owed-leaf _ _ _ none _ (c .last .ensures), pushed-not _ _ _ (λ z. omega arith))
 
 add-t11 : tie.Need-add-t11
 add-t11 c = search needs
 
 returns-2 : tie.Need-returns-2
 returns-2 c =
-    let p = c .before .before .before .before .before in
-    let e : subterms (p .before .args .kind) ≡ 1 = sym (p .subterms .ensures) ∙ c .if2 .taken in
-    (owed-more _ _ _ 1 e (λ z. omega arith), pushed-not _ _ _ (λ z. omega arith))
+    let counted = c .before .before .before .before .before in
+    let kind = counted .before .args .kind in
+    let one : subterms kind ≡ 1 = sym (counted .subterms .ensures) ∙ c .if2 .taken in
+    (owed-more _ _ _ 1 one (λ z. omega arith), pushed-not _ _ _ (λ z. omega arith))
 
 cast-waiting : tie.Need-cast-waiting
 cast-waiting c = search needs
@@ -49,10 +53,11 @@ add-t15 c = search needs
 
 returns-3 : tie.Need-returns-3
 returns-3 c =
-    let p = c .before in
-    let p1 = p .before .before .before .before in
-    let e : subterms (p1 .before .args .kind) ≡ 2 = omega (arith, p1 .subterms .ensures, p .if1 .left, c .if2 .left, subterms-most (p1 .before .args .kind)) in
-    (owed-more _ _ _ 2 e (λ z. omega arith), pushed-two _ _ _ e)
+    let counted = c .before .before .before .before .before in
+    let kind = counted .before .args .kind in
+    let is = counted .subterms .ensures in
+    let two : subterms kind ≡ 2 = omega (arith, is, c .before .if1 .left, c .if2 .left, subterms-most kind) in
+    (owed-more _ _ _ 2 two (λ z. omega arith), pushed-two _ _ _ two)
 
 pub owe-spec : {M : Type 1} → statement M
 owe-spec =

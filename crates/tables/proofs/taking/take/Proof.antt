@@ -1,3 +1,5 @@
+-- `tables::taking::take` meets its contract. In each arm the frame is the arm's variant, by which the
+-- definition of each column computes; a frame that meets no refusal is within every room. Assumes nothing.
 use mathlib.Core.Path.{refl}
 use native.Mathlib.Omega.{arith}
 use Rattle.tables.specs.Code.{seen-then, waiting-then, roots-then, column-then}
@@ -11,40 +13,37 @@ enum-known-frame c = search needs
 
 element-write-kinds : tie.Need-element-write-kinds
 element-write-kinds c =
-    let p = c .before in
-    let p1 = p .before .before in
-    term-room-is _ _ (p1 .pre) _ _ (p .frame .given .1) .terms-fit
+    let term = c .before in
+    term-room-is _ _ (term .before .before .pre) _ _ (term .frame .given .1) .terms-fit
 
 mul-payloads : tie.Need-mul-payloads
 mul-payloads c = search needs
 
 element-write-payloads : tie.Need-element-write-payloads
 element-write-payloads c =
-    let p = c .before in
-    let p1 = p .before .before in
-    term-room-is _ _ (p1 .pre) _ _ (p .frame .given .1) .terms-fit
+    let term = c .before in
+    term-room-is _ _ (term .before .before .pre) _ _ (term .frame .given .1) .terms-fit
 
 sub-owners : tie.Need-sub-owners
-sub-owners c = term-room-is _ _ (c .before .before .before .pre) _ _ (c .before .frame .given .1) .begun
+sub-owners c =
+    let term = c .before in
+    term-room-is _ _ (term .before .before .pre) _ _ (term .frame .given .1) .begun
 
 cast-owners : tie.Need-cast-owners
 cast-owners c =
-    let p = c .before in
-    let p1 = p .before .before in
-    omega (arith, term-room-is _ _ (p1 .pre) _ _ (p .frame .given .1))
+    let term = c .before in
+    omega (arith, term-room-is _ _ (term .before .before .pre) _ _ (term .frame .given .1))
 
 element-write-owners : tie.Need-element-write-owners
 element-write-owners c =
-    let p = c .before in
-    let p1 = p .before .before in
-    term-room-is _ _ (p1 .pre) _ _ (p .frame .given .1) .terms-fit
+    let term = c .before in
+    term-room-is _ _ (term .before .before .pre) _ _ (term .frame .given .1) .terms-fit
 
 owe-requires : tie.Need-owe-requires
 owe-requires c κs =
-    let p = c .before .before in
-    let p1 = p .before .before in
-    let r = term-room-is _ _ (p1 .pre) _ _ (p .frame .given .1) in
-    (r .wanted, r .terms-fit, r .depth-fits, r .due-fits)
+    let term = c .before .before in
+    let room = term-room-is _ _ (term .before .before .pre) _ _ (term .frame .given .1) in
+    (room .wanted, room .terms-fit, room .depth-fits, room .due-fits)
 
 enum-told : tie.Need-enum-told
 enum-told c = search needs
@@ -73,8 +72,8 @@ enum-told-4 c = search needs
 returns : tie.Need-returns
 unfolding seen-then waiting-then roots-then column-then
 returns c =
-    let p = c .before .before .before in
-    rw (p .frame .given .1) (c .owe .ensures .0, (c .owe .ensures .1, (refl, (refl, (refl, refl)))))
+    let owes = c .owe .ensures in
+    rw (c .before .before .before .frame .given .1) (owes .0, (owes .1, (refl, (refl, (refl, refl)))))
 
 returns-2 : tie.Need-returns-2
 unfolding seen-then waiting-then roots-then column-then

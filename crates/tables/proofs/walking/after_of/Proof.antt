@@ -1,3 +1,4 @@
+-- `tables::walking::after_of` meets its contract, inside the column and past its end. Assumes nothing.
 use mathlib.Core.Path.{sym}
 use native.Mathlib.Omega.{arith}
 use lib.ListN.{List·getD-eq-default}

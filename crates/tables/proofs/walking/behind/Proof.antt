@@ -1,3 +1,5 @@
+-- `tables::walking::behind` meets its contract: behind no term, one or two is none, one or two steps along the
+-- column. Assumes nothing.
 use mathlib.Core.Path.{_∙_, ap}
 use Prim.Native.Nat.{ℕ}
 use lib.ListN.{getD}
@@ -26,7 +28,11 @@ after-of-requires-2 : tie.Need-after-of-requires-2
 after-of-requires-2 c κs = search needs
 
 returns-3 : tie.Need-returns-3
-returns-3 c = let xs = c .before .before .before .before .args .after .now in c .after-of2 .ensures ∙ ap (λ (j : ℕ). getD xs j 0) (c .before .before .after-of .ensures) ∙ past-two _ _ _ (omega arith)
+returns-3 c =
+    let first = c .before .before in
+    let xs = first .before .before .args .after .now in
+    let from = ap (λ (j : ℕ). getD xs j 0) (first .after-of .ensures) in
+    c .after-of2 .ensures ∙ from ∙ past-two _ _ _ (omega arith)
 
 pub behind-spec : {M : Type 1} → statement M
 behind-spec =

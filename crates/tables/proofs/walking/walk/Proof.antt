@@ -1,3 +1,5 @@
+-- `tables::walking::walk` meets its contract. The loop's invariant: the walk from number i down, over what is
+-- stored so far, is the whole walk. The measure is i. Assumes nothing.
 use mathlib.Core.Path.{_≡_, _∙_, sym, refl}
 use Prim.Native.Nat.{_≤_}
 use borrow.Author.Needs.{needs}
@@ -30,8 +32,8 @@ subterms-requires c κs = search needs
 
 behind-requires : tie.Need-behind-requires Inv-loop μ-loop
 behind-requires c κs =
-    let l = c .before .before .before .before .loop in
-    (rw (c .before .subterms .ensures) (subterms-most _), l .inv .0, l .inv .1)
+    let walks = c .before .before .before .before .loop .inv in
+    (rw (c .before .subterms .ensures) (subterms-most _), walks .0, walks .1)
 
 mul-after : tie.Need-mul-after Inv-loop μ-loop
 mul-after c = omega arith
@@ -44,9 +46,11 @@ loop-less c = search needs
 
 loop-again : tie.Need-loop-again Inv-loop μ-loop
 loop-again c =
-    let l = c .before .before .before .before .before .loop in
-    let turn = walked-turn _ _ _ _ _ (c .before .before .before .before .loop-test .taken) (c .before .before .subterms .ensures) (c .behind .ensures) in
-    (omega arith, simp length-set (l .inv .1), l .inv .2 ∙ turn)
+    let tested = c .before .before .before .before in
+    let walks = tested .before .loop .inv in
+    let counted = c .before .before .subterms .ensures in
+    let turn = walked-turn _ _ _ _ _ (tested .loop-test .taken) counted (c .behind .ensures) in
+    (omega arith, simp length-set (walks .1), walks .2 ∙ turn)
 
 returns : tie.Need-returns Inv-loop μ-loop
 returns c = sym (c .before .loop .inv .2 ∙ walked-end _ _ _ (c .loop-test .left))
