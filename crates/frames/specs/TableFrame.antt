@@ -19,6 +19,13 @@ term-room = 1024
 abbrev pub path-room : ℕ
 path-room = 64
 
+-- the most definitions and events that a table has
+abbrev pub definition-room : ℕ
+definition-room = 64
+
+abbrev pub event-room : ℕ
+event-room = 64
+
 -- the frame of a line's bytes: `10 01 dd ee`, `11 nn`, `12 kk ..` or `1f tttt`; any other bytes are wrong
 unfoldable pub frame-of : List ℕ → Frame
 frame-of bs =
@@ -66,7 +73,7 @@ refusal (Closing t) s =
 -- the number that line 1 meets
 unfoldable pub first-refusal : Frame → ℕ
 first-refusal Wrong = 2
-first-refusal (Opening ed dd ee) = choose (eqb ed 1 && (leb 1 dd && (leb dd 64 && leb ee 64))) 0 3
+first-refusal (Opening ed dd ee) = choose (eqb ed 1 && (leb 1 dd && (leb dd definition-room && leb ee event-room))) 0 3
 first-refusal (Definition n) = 2
 first-refusal (Term k p) = 2
 first-refusal (Closing t) = 2

@@ -11,8 +11,11 @@ use words::say_refusal;
 use words::say_script;
 use words::say_table;
 
+// A table's text, a script's, and one byte more, so that a text over its room is seen to be.
+const INPUT_ROOM: usize = 98305;
+
 fn main() {
-    let mut buffer = [0u8; 98305];
+    let mut buffer = [0u8; INPUT_ROOM];
     let count = io::read_full(0, &mut buffer);
     judge(&buffer[..count]);
 }

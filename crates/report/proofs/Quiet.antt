@@ -27,7 +27,7 @@ shown-quiet hides-τ q = tt
 shown-quiet hides-✓ q = tt
 
 pub quiet-meets-none : (ts : List Term) {a : Address} {P : Process} {s : At} {r : Outcome} → Tracks ts a P s r
-  → Quiet (r .event) → r .met ≡ []
+    → Quiet (r .event) → r .met ≡ []
 unfolding labelled prefixed around jointly carried started ended
 quiet-meets-none ts process-call q = refl
 quiet-meets-none ts prefixing q = absurd q

@@ -9,7 +9,7 @@ use lib.Seq.{sets}
 use lib.Dec.{eqb}
 use Rattle.lines.specs.Line.{choose}
 use Rattle.frames.specs.Kind.{subterms}
-use Rattle.frames.specs.TableFrame.{refusal, term-room}
+use Rattle.frames.specs.TableFrame.{refusal, term-room, definition-room}
 use Rattle.frames.specs.declared.Frame.{Frame}
 use Rattle.frames.specs.declared.Frame.the-variants.{Opening, Definition, Term, Closing, Wrong}
 use Rattle.frames.specs.declared.Seen.{Seen}
@@ -18,7 +18,7 @@ use Rattle.tables.specs.Table.{Item, Sofar}
 -- a frame that meets no refusal, by what is within its rooms
 pub record Ready (f : Frame) (s : Seen) : Type 0 where
   pub fine : refusal f s ≡ 0
-  pub definitions-fit : s .definitions ≤ 64
+  pub definitions-fit : s .definitions ≤ definition-room
   pub begun-fit : s .begun ≤ s .definitions
   pub terms-fit : s .terms ≤ term-room
   pub due-fit : s .due ≤ s .depth + 1
@@ -97,4 +97,4 @@ pub record Filled (s : Sofar) (k p o r k₀ p₀ o₀ r₀ : List ℕ) : Type 0 
   pub owners-are : o ≡ sets o₀ 0 (map (λ (i : Item). i .definition) (s .terms))
   pub roots-are : r ≡ sets r₀ 0 (s .roots)
   pub terms-fit : length (s .terms) ≤ term-room
-  pub roots-fit : length (s .roots) ≤ 64
+  pub roots-fit : length (s .roots) ≤ definition-room

@@ -4,7 +4,7 @@ use Prim.Native.Nat.{ℕ, zero, suc, _-_}
 use mathlib.Core.List.{List, _++_, map}
 use lib.ListN.{length, getD, set, replicate}
 use Rattle.frames.specs.Kind.{subterms}
-use Rattle.frames.specs.TableFrame.{term-room}
+use Rattle.frames.specs.TableFrame.{term-room, definition-room}
 use Rattle.tables.specs.Table.{Item, Sofar, Judged, accepted, refused}
 use Rattle.tables.specs.declared.Checked.{Checked}
 use Rattle.tables.specs.declared.Checked.the-variants.{Accepted, Refused}
@@ -25,7 +25,7 @@ owners s = column term-room (map (λ (i : Item). i .definition) (s .terms))
 
 -- the number of each definition's root
 unfoldable pub roots : Sofar → List ℕ
-roots s = column 64 (s .roots)
+roots s = column definition-room (s .roots)
 
 -- the number of the term behind n terms and their subterms, from number j on; `xs` has it for each term alone
 unfoldable pub past : ℕ → ℕ → List ℕ → ℕ

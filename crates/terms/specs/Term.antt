@@ -7,6 +7,7 @@ use lib.ListN.{getD}
 use lib.Dec.{eqb}
 use Rattle.lines.specs.Line.{choose}
 use Rattle.frames.specs.Kind as Kind
+use Rattle.frames.specs.TableFrame.{path-room}
 use Rattle.tables.specs.Table.{Item, Sofar}
 
 -- what has no subterm
@@ -103,9 +104,9 @@ definitions-of s = trees (s .terms)
 
 -- every literal's path is at most 64 digits, where the term's own has n
 abbrev pub Shallow : ℕ → Term → Type 0
-Shallow n (leaf l) = n ≤ 64
-Shallow n (prefix e t) = (n + 1 ≤ 64) × Shallow (n + 1) t
-Shallow n (binary o t u) = (n ≤ 64) × (Shallow (n + 1) t × Shallow (n + 1) u)
+Shallow n (leaf l) = n ≤ path-room
+Shallow n (prefix e t) = (n + 1 ≤ path-room) × Shallow (n + 1) t
+Shallow n (binary o t u) = (n ≤ path-room) × (Shallow (n + 1) t × Shallow (n + 1) u)
 
 -- every call is of one of d definitions, and every event is one of e
 abbrev pub LeafWithin : ℕ → Leaf → Type 0
