@@ -241,8 +241,3 @@ module _ (ts : List Term) where
     λ e. let (b, p, d) = step-derived P s a _ e in rw (p, append-nil b) d,
     λ d. rw append-nil at (derived-step d []),
   )
-
-  -- an address that no step uses up names no derivation
-  pub no-derivation : (P : Process) (s : At) (a : Address)
-      → ((x : Stepped) → step ts P s a ≡ some x → x .unused ≡ [] → ⊥) → (r : Outcome) → Tracks ts a P s r → ⊥
-  no-derivation P s a h r d = h _ (step-exactly P s a r .1 d) refl

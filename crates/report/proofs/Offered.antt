@@ -10,6 +10,7 @@ use native.Mathlib.Omega.{arith}
 use lib.Dec.{eqb}
 use borrow.Author.Tests.{eqb-true, eq-eqb}
 use Rattle.lines.specs.Line.{choose}
+use Rattle.lines.proofs.Digits.{both}
 use Rattle.terms.specs.Term.{Leaf, call, SKIP, STOP, Term}
 use Rattle.places.specs.Place.{Place}
 use Rattle.report.specs.Process.{Event, τ, ✓, visible, one, two, three, four, Address, choice}
@@ -42,10 +43,6 @@ and-both false b e f = let z : _≡_ {A = ℕ} 0 1 = cc in absurd (omega arith)
 pub or-either : (a b : Bool) → (a || b) ≡ true → (a ≡ true) ⊎ (b ≡ true)
 or-either true b e = inl refl
 or-either false b e = inr e
-
-pub and-each : (a b : Bool) → (a && b) ≡ true → (a ≡ true) × (b ≡ true)
-and-each true b e = (refl, e)
-and-each false b e = let z : _≡_ {A = ℕ} 0 1 = cc in absurd (omega arith)
 
 -- what an external choice offers is what either side offers
 choice-left : (w : Place) (m n : Option ℕ) (P Q : Process) (e : Event) → offers P e ≡ true
@@ -240,10 +237,10 @@ module _ (ts : List Term) where
           let shown : Shows x (d .1 .event) f = rw (d .3) v in
           (two ∷ d .0, _, synchronized-parallelism-2 (d .2) shown, refl)
 
-      both : (k : ℕ) → member k x ≡ true → offers P (visible k) ≡ true → offers Q (visible k) ≡ true
+      meets : (k : ℕ) → member k x ≡ true → offers P (visible k) ≡ true → offers Q (visible k) ≡ true
           → Offered (split w (together x) m n P Q) s (visible k)
       unfolding jointly
-      both k i h h′ =
+      meets k i h h′ =
           let d = left (visible k) h (inside (first-eval m n w s) s) in
           let d′ = right (visible k) h′ (right-inside m n w s (d .1)) in
           (three ∷ d .0 ++ d′ .0, _, synchronized-parallelism-3 (d .2) (d′ .2) (d .3) (d′ .3) i refl, refl)
@@ -265,8 +262,8 @@ module _ (ts : List Term) where
           → Offered (split w (together x) m n P Q) s (visible k)
       unfolding offers
       by-set k true i h =
-          let c = and-each (offers-event k P) (offers-event k Q) h in
-          both k i (c .0) (c .1)
+          let c = both (offers-event k P) (offers-event k Q) h in
+          meets k i (c .0) (c .1)
       by-set k false i h =
           ⊎-elim (side-1 (visible k) (visible k) (passes i)) (side-2 (visible k) (visible k) (passes i))
           (or-either (offers-event k P) (offers-event k Q) h)
@@ -275,7 +272,7 @@ module _ (ts : List Term) where
           → Offered (split w (together x) m n P Q) s e
       unfolding offers offers-τ offers-✓ offers-event silent
       parallel-gives τ h = ⊎-elim silent-1 silent-2 (or-either (silent P) (silent Q) h)
-      parallel-gives ✓ h = let c = and-each (at-Ω P) (at-Ω Q) h in ends (c .0) (c .1)
+      parallel-gives ✓ h = let c = both (at-Ω P) (at-Ω Q) h in ends (c .0) (c .1)
       parallel-gives (visible k) h = by-set k (member k x) refl h
 
   -- a sequence's offer is its left's, or its left's end

@@ -11,6 +11,7 @@ use native.Mathlib.Omega.{arith}
 use lib.Dec.{eqb}
 use borrow.Author.Tests.{eqb-true, eqb-false}
 use Rattle.lines.specs.Line.{choose}
+use Rattle.lines.proofs.Digits.{both}
 use Rattle.terms.specs.Term.{Leaf, call, SKIP, STOP, Term}
 use Rattle.places.specs.Place.{Place}
 use Rattle.report.specs.Process.{Event, τ, ✓, visible, Address, choice, together, Process}
@@ -21,7 +22,7 @@ use Rattle.report.specs.Tracking.{Tracks}
 use Rattle.report.specs.Step.{at-Ω}
 use Rattle.report.specs.Offers.{leaf-offers, offers-✓, offers-τ, offers-event, offers, offers-some}
 use Rattle.report.specs.Offers.{Status, live, ended, stuck, status}
-use Rattle.report.proofs.Offered.{or-left, or-right, or-either, and-each, is-Ω, derived-offered, offered-derived}
+use Rattle.report.proofs.Offered.{or-left, or-right, or-either, is-Ω, derived-offered, offered-derived}
 
 -- every event of a control is below n
 abbrev pub Among : ℕ → Process → Type 0
@@ -52,7 +53,7 @@ among-offers n k (split w (together x) i j P Q) t h =
   where
     go : (b : Bool) → (offers-event k P ≡ true → k < n) → (offers-event k Q ≡ true → k < n)
         → choose b (offers-event k P && offers-event k Q) (offers-event k P || offers-event k Q) ≡ true → k < n
-    go true left right h = left (and-each (offers-event k P) (offers-event k Q) h .0)
+    go true left right h = left (both (offers-event k P) (offers-event k Q) h .0)
     go false left right h = ⊎-elim left right (or-either (offers-event k P) (offers-event k Q) h)
 among-offers n k (sequence w b P Q) t h = among-offers n k P (t .0) h
 among-offers n k Ω t h = let z : _≡_ {A = ℕ} 0 1 = cc in absurd (omega arith)
