@@ -8,4 +8,5 @@ pub mod Quiet
 pub mod Stripped
 pub mod Offered
 pub mod Stuck
+pub mod Drawn
 pub mod Cases

@@ -1,6 +1,7 @@
 -- A run: where it starts, what an address makes of it, and the rooms. Document 01, 'Steps and addresses',
 -- 'Room' and 'Numbers of refusal', 7 to 11.
 use Prim.Native.Nat.{ℕ, zero, suc}
+use mathlib.Core.Path.{_≡_}
 use mathlib.Core.List.{List, [], _∷_, _++_}
 use mathlib.Core.Option.{Option, none, some}
 use lib.ListN.{length}
@@ -80,3 +81,8 @@ answered s (some x) = whole (x .unused) (x .outcome .event) (after s (x .outcome
 
 unfoldable pub answer : List Term → State → Address → Answer
 answer ts s a = answered s (step ts (s .process) (stands s) a)
+
+-- the states that accepted steps reach
+pub data Reached (ts : List Term) : State → Type 0 where
+  begun : Reached ts start
+  goes-on : {s t : State} (a : Address) (e : Event) → Reached ts s → answer ts s a ≡ accepted e t → Reached ts t
