@@ -17,7 +17,7 @@ use Rattle.report.specs.Track.{Outcome}
 use Rattle.report.specs.Tracking.{Tracks}
 use Rattle.report.specs.Step.{Stepped, stepped, step}
 use Rattle.report.specs.Run.{State, stands, after, over-room, cell-room, node-room, arc-room, meeting-room}
-use Rattle.report.specs.Run.{Answer, accepted, refused, within-room, whole, answered, answer}
+use Rattle.report.specs.Run.{accepted, refused, within-room, whole, answered, answer}
 use Rattle.report.proofs.Derived.{step-exactly}
 
 -- the rooms' numbers

@@ -1,14 +1,13 @@
 -- Document 01's runs A to H and K, played by computation: events, status, and how many nodes, saved arcs,
 -- arcs made and meetings the track has, or the refusal. One statement for all. Assumes nothing.
-use Prim.Native.Nat.{ℕ, zero, suc, _+_}
+use Prim.Native.Nat.{ℕ, suc}
 use mathlib.Core.Path.{_≡_, refl}
-use mathlib.Core.Bool.{Bool, true, false, _&&_, _||_}
-use mathlib.Core.List.{List, [], _∷_, _++_, map}
-use mathlib.Core.Option.{Option, none, some}
-use lib.ListN.{length, getElem?}
+use mathlib.Core.Bool.{Bool, false, _&&_, _||_}
+use mathlib.Core.List.{List, [], _∷_, _++_}
+use lib.ListN.{length}
 use lib.Dec.{eqb}
 use Rattle.lines.specs.Line.{choose}
-use Rattle.terms.specs.Term.{call, SKIP, STOP, internal, external, sequence, parallel, Term, leaf, prefix}
+use Rattle.terms.specs.Term.{call, SKIP, STOP, external, sequence, parallel, Term, leaf, prefix}
 use Rattle.terms.specs.Term.{binary}
 use Rattle.report.specs.Process.{Event, τ, ✓, visible, one, two, three, four, Address, joined}
 use Rattle.report.specs.Process.{untouched, right-side, cells}

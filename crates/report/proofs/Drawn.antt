@@ -12,7 +12,7 @@ use lib.ListN.{length, length-append, getElem?}
 use lib.Dec.{eqb, ltb}
 use borrow.Author.Tests.{eq-eqb, ltb-false}
 use Rattle.lines.specs.Line.{choose}
-use Rattle.terms.specs.Term.{Term, Operator, external, parallel}
+use Rattle.terms.specs.Term.{Term, external, parallel}
 use Rattle.terms.specs.Term as Term
 use Rattle.places.specs.Place.{Place}
 use Rattle.report.specs.Process.{Event, Address, Split, Process, leaf, prefix, internal, split, sequence}
@@ -26,7 +26,7 @@ use Rattle.report.specs.Tracking.{external-choice-3, external-choice-4, 
 use Rattle.report.specs.Tracking.{sequential-composition-2, synchronized-parallelism-1}
 use Rattle.report.specs.Tracking.{synchronized-parallelism-2, synchronized-parallelism-3}
 use Rattle.report.specs.Tracking.{synchronized-parallelism-4}
-use Rattle.report.specs.Run.{State, start, stands, after, over-room, cell-room, node-room, arc-room}
+use Rattle.report.specs.Run.{State, stands, after, over-room, cell-room, node-room, arc-room}
 use Rattle.report.specs.Run.{meeting-room, Reached, begun, goes-on}
 use Rattle.report.proofs.Answered.{accepted-exactly}
 

@@ -1,7 +1,8 @@
 -- Laws of the report's rules: `Derived`, the step of an address is the derivation that it names; `Answered`,
 -- when an address is accepted and which refusal it meets otherwise; `Quiet`, a step of τ or ✓ has no event
 -- nodes; `Stripped`, what a step is with tracking stripped; `Offered`, offers are the derivations' events;
--- `Stuck`, what a status says of the derivations; and `Cases`, the runs of document 01 played by computation.
+-- `Stuck`, what a status says of the derivations; `Drawn` and `Marked`, what every run keeps: arcs into each side,
+-- rooms, and no reference labelled twice; and `Cases`, the runs of document 01 played by computation.
 pub mod Derived
 pub mod Answered
 pub mod Quiet
@@ -9,4 +10,5 @@ pub mod Stripped
 pub mod Offered
 pub mod Stuck
 pub mod Drawn
+pub mod Marked
 pub mod Cases

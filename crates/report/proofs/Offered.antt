@@ -4,10 +4,9 @@ use Prim.Native.Nat.{ℕ}
 use mathlib.Core.Path.{_≡_, refl, sym, ap, _∙_}
 use mathlib.Core.Bool.{Bool, true, false, _&&_, _||_}
 use mathlib.Core.List.{List, [], _∷_, _++_}
-use mathlib.Core.Option.{Option, none, some}
+use mathlib.Core.Option.{Option}
 use mathlib.Core.Logic.{_⊎_, inl, inr, ⊎-elim}
 use native.Mathlib.Omega.{arith}
-use lib.Dec.{eqb}
 use borrow.Author.Tests.{eqb-true, eq-eqb}
 use Rattle.lines.specs.Line.{choose}
 use Rattle.lines.proofs.Digits.{both}
@@ -18,7 +17,7 @@ use Rattle.report.specs.Process.{together, Process, leaf, prefix, intern
 use Rattle.report.specs.Track.{At, Outcome, labelled, prefixed, first-eval, inside, around}
 use Rattle.report.specs.Track.{right-inside, jointly, carried, started, ended}
 use Rattle.frames.specs.EventSet.{member}
-use Rattle.report.specs.Tracking.{Visible, Shows, passes, hides-τ, hides-✓, Tracks}
+use Rattle.report.specs.Tracking.{Shows, passes, hides-τ, hides-✓, Tracks}
 use Rattle.report.specs.Tracking.{process-call, prefixing, skip, stop, internal-choice-1}
 use Rattle.report.specs.Tracking.{internal-choice-2, external-choice-1, external-choice-2}
 use Rattle.report.specs.Tracking.{external-choice-3, external-choice-4, sequential-composition-1}

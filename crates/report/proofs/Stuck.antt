@@ -2,10 +2,9 @@
 -- a derivation, wherever it stands; live is any other. By the offers, which are the derivations' events, and
 -- which are below the table's count of events where the control's own are. Assumes nothing.
 use Prim.Native.Nat.{ℕ, zero, suc, _<_}
-use mathlib.Core.Path.{_≡_, refl, sym, ap, _∙_}
+use mathlib.Core.Path.{_≡_, refl}
 use mathlib.Core.Bool.{Bool, true, false, _&&_, _||_}
 use mathlib.Core.List.{List, []}
-use mathlib.Core.Option.{Option}
 use mathlib.Core.Logic.{⊎-elim, _↔_}
 use native.Mathlib.Omega.{arith}
 use lib.Dec.{eqb}
@@ -13,7 +12,6 @@ use borrow.Author.Tests.{eqb-true, eqb-false}
 use Rattle.lines.specs.Line.{choose}
 use Rattle.lines.proofs.Digits.{both}
 use Rattle.terms.specs.Term.{Leaf, call, SKIP, STOP, Term}
-use Rattle.places.specs.Place.{Place}
 use Rattle.report.specs.Process.{Event, τ, ✓, visible, Address, choice, together, Process}
 use Rattle.report.specs.Process.{leaf, prefix, internal, split, sequence, Ω, ⊥′}
 use Rattle.report.specs.Track.{At, Outcome}
@@ -21,7 +19,7 @@ use Rattle.frames.specs.EventSet.{member}
 use Rattle.report.specs.Tracking.{Tracks}
 use Rattle.report.specs.Step.{at-Ω}
 use Rattle.report.specs.Offers.{leaf-offers, offers-✓, offers-τ, offers-event, offers, offers-some}
-use Rattle.report.specs.Offers.{Status, live, ended, stuck, status}
+use Rattle.report.specs.Offers.{live, ended, stuck, status}
 use Rattle.report.proofs.Offered.{or-left, or-right, or-either, is-Ω, derived-offered, offered-derived}
 
 -- every event of a control is below n

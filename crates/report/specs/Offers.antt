@@ -6,7 +6,7 @@ use mathlib.Core.Bool.{Bool, true, false, _&&_, _||_}
 use lib.Dec.{eqb}
 use Rattle.lines.specs.Line.{choose}
 use Rattle.terms.specs.Term.{Leaf, call, SKIP, STOP}
-use Rattle.report.specs.Process.{Event, τ, ✓, visible, Split, choice, together, Process, leaf, prefix}
+use Rattle.report.specs.Process.{Event, τ, ✓, visible, choice, together, Process, leaf, prefix}
 use Rattle.report.specs.Process.{internal, split, sequence, Ω, ⊥′}
 use Rattle.frames.specs.EventSet.{member}
 use Rattle.report.specs.Step.{at-Ω}

@@ -1,6 +1,6 @@
 -- Processes under tracking: Fig. 2 of the report for their forms, Definition 1 for the place that each
 -- literal carries, and Fig. 7 for what tracking adds. Document 01, 'Steps and addresses' and 'Room'.
-use Prim.Native.Nat.{ℕ, zero, suc, _+_}
+use Prim.Native.Nat.{ℕ, _+_}
 use mathlib.Core.Bool.{Bool, true, false}
 use mathlib.Core.List.{List, [], _∷_, _++_}
 use mathlib.Core.Option.{Option, none, some}

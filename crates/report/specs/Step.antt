@@ -9,7 +9,7 @@ use lib.Dec.{eqb}
 use Rattle.lines.specs.Line.{choose}
 use Rattle.terms.specs.Term.{call, SKIP, STOP, Term}
 use Rattle.places.specs.Place.{Place}
-use Rattle.report.specs.Process.{Event, τ, ✓, visible, Digit, one, two, three, four, Address, Split}
+use Rattle.report.specs.Process.{Event, τ, ✓, visible, one, two, three, four, Address, Split}
 use Rattle.report.specs.Process.{choice, together, Process, leaf, prefix, internal, split, sequence}
 use Rattle.report.specs.Process.{Ω, ⊥′, rhs}
 use Rattle.report.specs.Track.{At, Outcome, labelled, prefixed, Entered, first-eval, inside, around}

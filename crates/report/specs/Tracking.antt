@@ -5,7 +5,7 @@ use Prim.Native.Nat.{ℕ}
 use mathlib.Core.Path.{_≡_}
 use mathlib.Core.Bool.{Bool, true, false}
 use mathlib.Core.List.{List, [], _∷_, _++_}
-use mathlib.Core.Option.{Option, none, some}
+use mathlib.Core.Option.{Option, some}
 use Rattle.frames.specs.EventSet.{member}
 use Rattle.terms.specs.Term.{call, SKIP, STOP, Term}
 use Rattle.places.specs.Place.{Place}
