@@ -60,11 +60,11 @@ Rooted g Ω = Unit {0}
 Rooted g ⊥′ = Unit {0}
 
 -- more arcs take nothing away
-side-more : (g h : List Pair) (m : Option ℕ) (P : Process) → Side g m P → Side (g ++ h) m P
+pub side-more : (g h : List Pair) (m : Option ℕ) (P : Process) → Side g m P → Side (g ++ h) m P
 side-more g h none P s = s
 side-more g h (some n) P s = into-before g h n s
 
-rooted-more : (g h : List Pair) (P : Process) → Rooted g P → Rooted (g ++ h) P
+pub rooted-more : (g h : List Pair) (P : Process) → Rooted g P → Rooted (g ++ h) P
 rooted-more g h (leaf w l) r = tt
 rooted-more g h (prefix w e P) r = rooted-more g h P r
 rooted-more g h (internal w P Q) r = (rooted-more g h P (r .0), rooted-more g h Q (r .1))
@@ -285,7 +285,7 @@ of-joint x e m n w s P Q l r h on-left on-right =
     }
 
 -- two sides that have ended have parents
-found : (m : Option ℕ) (n k : ℕ) (g : List Pair) → Into g n → Into (parents (some n) m k g) k
+pub found : (m : Option ℕ) (n k : ℕ) (g : List Pair) → Into g n → Into (parents (some n) m k g) k
 unfolding parents leads
 found m n k [] i = absurd i
 found m n k (a ∷ g) (inl e) = rw (eq-eqb n (a .to) (sym e)) (inl refl)

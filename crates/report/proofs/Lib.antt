@@ -1,8 +1,9 @@
 -- Laws of the report's rules: `Derived`, the step of an address is the derivation that it names; `Answered`,
 -- when an address is accepted and which refusal it meets otherwise; `Quiet`, a step of τ or ✓ has no event
 -- nodes; `Stripped`, what a step is with tracking stripped; `Offered`, offers are the derivations' events;
--- `Stuck`, what a status says of the derivations; `Drawn` and `Marked`, what every run keeps: arcs into each side,
--- rooms, and no reference labelled twice; and `Cases`, the runs of document 01 played by computation.
+-- `Stuck`, what a status says of the derivations; what every run keeps: `Drawn`, arcs into each side, and the
+-- rooms; `Marked`, no reference labelled twice; `Climbing`, arcs to larger references, into each but 0; and
+-- `Cases`, the runs of document 01 played by computation.
 pub mod Derived
 pub mod Answered
 pub mod Quiet
@@ -11,4 +12,5 @@ pub mod Offered
 pub mod Stuck
 pub mod Drawn
 pub mod Marked
+pub mod Climbing
 pub mod Cases
