@@ -352,30 +352,21 @@ module _ (ts : List Term) where
   kept (internal-choice-1 {w = w} {P = P} {s = s}) h = of-labelled _ P w s (h .0)
   kept (internal-choice-2 {w = w} {Q = Q} {s = s}) h = of-labelled _ Q w s (h .1)
   kept (external-choice-1 {w = w} {n₁ = m} {n₂ = n} {P = P} {Q = Q} {s = s} {r = r} d e) h =
-      let i = first-eval m n w s in
-      let k = kept d (rooted-more (s .arcs) (i .arcs) P (h .2)) in
-      of-left _ _ m n w s P Q r h k
+      of-left _ _ m n w s P Q r h (kept d (rooted-more (s .arcs) _ P (h .2)))
   kept (external-choice-2 {w = w} {n₁ = m} {n₂ = n} {P = P} {Q = Q} {s = s} {r = r} d e) h =
-      let i = first-eval n m w s in
-      let k = kept d (rooted-more (s .arcs) (i .arcs) Q (h .3)) in
-      of-right _ _ m n w s P Q r h k
+      of-right _ _ m n w s P Q r h (kept d (rooted-more (s .arcs) _ Q (h .3)))
   kept (external-choice-3 {w = w} {n₁ = m} {n₂ = n} {P = P} {s = s} {r = r} d v) h =
-      let i = first-eval m n w s in
-      of-dropped m n w s P r (h .0) (kept d (rooted-more (s .arcs) (i .arcs) P (h .2)))
+      of-dropped m n w s P r (h .0) (kept d (rooted-more (s .arcs) _ P (h .2)))
   kept (external-choice-4 {w = w} {n₁ = m} {n₂ = n} {Q = Q} {s = s} {r = r} d v) h =
-      let i = first-eval n m w s in
-      of-dropped n m w s Q r (h .1) (kept d (rooted-more (s .arcs) (i .arcs) Q (h .3)))
+      of-dropped n m w s Q r (h .1) (kept d (rooted-more (s .arcs) _ Q (h .3)))
   kept (sequential-composition-1 {w = w} {Q = Q} {s = s} {r = r} d n) h = of-carried s r w Q (h .1) (kept d (h .0))
   kept (sequential-composition-2 {w = w} {Q = Q} {s = s} {r = r} d e) h = of-started s r w Q (h .1) (kept d (h .0))
   kept (synchronized-parallelism-1 {w = w} {n₁ = m} {n₂ = n} {P = P} {Q = Q} {s = s} {r = r} d e) h =
-      let i = first-eval m n w s in
-      let k = kept d (rooted-more (s .arcs) (i .arcs) P (h .2)) in
-      of-left _ _ m n w s P Q r h k
+      of-left _ _ m n w s P Q r h (kept d (rooted-more (s .arcs) _ P (h .2)))
   kept (synchronized-parallelism-2 {w = w} {n₁ = m} {n₂ = n} {P = P} {Q = Q} {s = s} {r = r} d e) h =
-      let i = first-eval n m w s in
-      let k = kept d (rooted-more (s .arcs) (i .arcs) Q (h .3)) in
-      of-right _ _ m n w s P Q r h k
-  kept (synchronized-parallelism-3 {w = w} {x = x} {n₁ = m} {n₂ = n} {P = P} {Q = Q} {s = s} {l = l} {r = r} d d′ e e′ c p) h =
+      of-right _ _ m n w s P Q r h (kept d (rooted-more (s .arcs) _ Q (h .3)))
+  kept (synchronized-parallelism-3 {w = w} {x = x} {n₁ = m} {n₂ = n} {P = P} {Q = Q} {s = s} {l = l} {r = r}
+      d d′ e e′ c p) h =
       let i = first-eval m n w s in
       let on-left = kept d (rooted-more (s .arcs) (i .arcs) P (h .2)) in
       let g = (s .arcs ++ i .arcs) ++ l .arcs in
