@@ -2,8 +2,9 @@
 -- when an address is accepted and which refusal it meets otherwise; `Quiet`, a step of τ or ✓ has no event
 -- nodes; `Stripped`, what a step is with tracking stripped; `Offered`, offers are the derivations' events;
 -- `Stuck`, what a status says of the derivations; what every run keeps: `Drawn`, arcs into each side, and the
--- rooms; `Marked`, no reference labelled twice; `Climbing`, arcs to larger references, into each but 0; and
--- `Cases`, the runs of document 01 played by computation.
+-- rooms; `Marked`, no reference labelled twice; `Climbing`, arcs to larger references, into each but 0;
+-- `Meetings`, meetings made once, between labelled event nodes of one event; `Holding`, no reference held
+-- twice; and `Cases`, the runs of document 01 played by computation.
 pub mod Derived
 pub mod Answered
 pub mod Quiet
@@ -13,4 +14,6 @@ pub mod Stuck
 pub mod Drawn
 pub mod Marked
 pub mod Climbing
+pub mod Meetings
+pub mod Holding
 pub mod Cases

@@ -2,15 +2,15 @@
 -- label has no label. Told by counting, for each reference n: the labels that n has, plus the parts of control
 -- that stand at n without a label yet, are at most 1 where n has been drawn, and 0 where it has not. Each rule
 -- keeps the sum within what it draws. Assumes nothing.
-use Prim.Native.Nat.{ℕ, suc, _+_, _≤_}
-use mathlib.Core.Path.{_≡_, refl, subst}
+use Prim.Native.Nat.{ℕ, suc, _+_, _≤_, _<_}
+use mathlib.Core.Path.{_≡_, refl, subst, ap}
 use mathlib.Core.Bool.{Bool, true, false}
-use mathlib.Core.List.{List, [], _∷_, _++_}
+use mathlib.Core.List.{List, [], _∷_, _++_, List·Memᴰ, List·Memᴰ·head, List·Memᴰ·tail}
 use mathlib.Core.Option.{Option, none, some}
 use native.Mathlib.Omega.{arith}
 use lib.ListN.{getElem?}
 use lib.Dec.{eqb, ltb}
-use borrow.Author.Tests.{eqb-true, eqb-false, ltb-true, ltb-false}
+use borrow.Author.Tests.{eqb-true, eqb-false, eq-eqb, ltb-true, ltb-false}
 use Rattle.lines.specs.Line.{choose}
 use Rattle.terms.specs.Term.{Term, external, parallel}
 use Rattle.terms.specs.Term as Term
@@ -29,15 +29,28 @@ use Rattle.report.specs.Run.{State, stands, after, Reached, begun, goes-
 use Rattle.report.proofs.Answered.{accepted-exactly}
 use Rattle.report.proofs.Stripped.{ends-at-Ω}
 
+-- what counts passes its test
+passed : (b : Bool) → 1 ≤ choose b 1 0 → b ≡ true
+passed true h = refl
+passed false h = absurd (omega arith)
+
 -- 1 where n is m
-pub one : ℕ → ℕ → ℕ
+unfoldable pub one : ℕ → ℕ → ℕ
 one n m = choose (eqb n m) 1 0
 
+pub one-same : (n m : ℕ) → n ≡ m → one n m ≡ 1
+unfolding one
+one-same n m e = rw (eq-eqb n m e)
+
+pub same-one : (n m : ℕ) → 1 ≤ one n m → n ≡ m
+unfolding one
+same-one n m h = eqb-true n m (passed (eqb n m) h)
+
 -- 1 where n is drawn before f
-pub past : ℕ → ℕ → ℕ
+unfoldable pub past : ℕ → ℕ → ℕ
 past n f = choose (ltb n f) 1 0
 
-past-most : (n f : ℕ) → past n f ≤ 1
+pub past-most : (n f : ℕ) → past n f ≤ 1
 unfolding past
 past-most n f = go (ltb n f)
   where
@@ -45,7 +58,11 @@ past-most n f = go (ltb n f)
     go true = omega arith
     go false = omega arith
 
-next-past : (n f : ℕ) → one n f + past n f ≡ past n (suc f)
+pub past-drawn : (n f : ℕ) → 1 ≤ past n f → n < f
+unfolding past
+past-drawn n f h = ltb-true n f (passed (ltb n f) h)
+
+pub next-past : (n f : ℕ) → one n f + past n f ≡ past n (suc f)
 unfolding one past
 next-past n f = go (eqb n f) (ltb n f) (ltb n (suc f)) refl refl refl
   where
@@ -64,14 +81,21 @@ next-past n f = go (eqb n f) (ltb n f) (ltb n (suc f)) refl refl refl
     go false false false p q r = refl
 
 -- how often n is labelled
-pub tally : ℕ → List Label → ℕ
+unfoldable pub tally : ℕ → List Label → ℕ
 tally n [] = 0
 tally n (l ∷ ls) = one n (l .reference) + tally n ls
 
-tally-append : (n : ℕ) (ls ms : List Label) → tally n (ls ++ ms) ≡ tally n ls + tally n ms
+pub tally-append : (n : ℕ) (ls ms : List Label) → tally n (ls ++ ms) ≡ tally n ls + tally n ms
 unfolding tally
 tally-append n [] ms = omega arith
 tally-append n (l ∷ ls) ms = omega (arith, tally-append n ls ms)
+
+-- a label in the list counts
+pub label-counts : {l : Label} {ls : List Label} → List·Memᴰ l ls → 1 ≤ tally (l .reference) ls
+unfolding tally
+label-counts {l = l} (List·Memᴰ·head {x = m} e) =
+    omega (arith, one-same (l .reference) (m .reference) (ap (λ k. k .reference) e))
+label-counts (List·Memᴰ·tail i) = omega (arith, label-counts i)
 
 -- how many parts of a process that stands at m stand at n without a label yet
 pub waiting : ℕ → ℕ → Process → ℕ
@@ -87,7 +111,7 @@ waiting n m Ω = one n m
 waiting n m ⊥′ = one n m
 
 -- no side of a process has stepped
-abbrev Unentered : Process → Type 0
+abbrev pub Unentered : Process → Type 0
 Unentered (leaf w l) = Unit {0}
 Unentered (prefix w e P) = Unentered P
 Unentered (internal w P Q) = Unentered P × Unentered Q
@@ -99,7 +123,7 @@ Unentered Ω = Unit {0}
 Unentered ⊥′ = Unit {0}
 
 -- what has not begun is unentered
-abbrev By-side : Option ℕ → Type 0 → Type 0 → Type 0
+abbrev pub By-side : Option ℕ → Type 0 → Type 0 → Type 0
 By-side none U F = U
 By-side (some a) U F = F
 
@@ -148,7 +172,7 @@ untouched-unentered w (Term.binary Term.sequence t u) =
 untouched-unentered w (Term.binary (parallel x) t u) =
     (untouched-unentered (below w 1) t, untouched-unentered (below w 2) u)
 
-rhs-unentered : (n : ℕ) (t : Option Term) → Unentered (right-side n t)
+pub rhs-unentered : (n : ℕ) (t : Option Term) → Unentered (right-side n t)
 unfolding right-side
 rhs-unentered n none = tt
 rhs-unentered n (some t) = untouched-unentered (record { definition = n; path = [] }) t
@@ -235,7 +259,7 @@ by-right n m w k none (some b) P Q = omega arith
 by-right n m w k (some a) (some b) P Q = omega arith
 
 -- entering a side labels what waited there, and draws where the side stands
-side-fit : (own : Option ℕ) (P : Process) → By-side own (Unentered P) (Fit P) → Fit P
+pub side-fit : (own : Option ℕ) (P : Process) → By-side own (Unentered P) (Fit P) → Fit P
 side-fit none P u = unentered-fit P u
 side-fit (some a) P f = f
 
