@@ -79,7 +79,7 @@ rooted-more g h Ω r = tt
 rooted-more g h ⊥′ r = tt
 
 -- a term that no step has touched has not ended, and has no side that has stepped
-untouched-on : (w : Place) (t : Term) → untouched w t ≡ Ω → ⊥
+pub untouched-on : (w : Place) (t : Term) → untouched w t ≡ Ω → ⊥
 unfolding untouched joined
 untouched-on w (Term.leaf l) e = let z : _≡_ {A = ℕ} 0 1 = cc in omega arith
 untouched-on w (Term.prefix k t) e = let z : _≡_ {A = ℕ} 0 1 = cc in omega arith

@@ -4,7 +4,9 @@
 -- `Stuck`, what a status says of the derivations; what every run keeps: `Drawn`, arcs into each side, and the
 -- rooms; `Marked`, no reference labelled twice; `Climbing`, arcs to larger references, into each but 0;
 -- `Meetings`, meetings made once, between labelled event nodes of one event; `Holding`, no reference held
--- twice; and `Cases`, the runs of document 01 played by computation.
+-- twice; `Placed`, literals at their places, and Ω at the top or beside a parallel; `Weighed`, what control
+-- weighs, and `Parents`, arcs from labelled references, none made twice, and the parents of Ω; and `Cases`,
+-- the runs of document 01 played by computation.
 pub mod Derived
 pub mod Answered
 pub mod Quiet
@@ -16,4 +18,7 @@ pub mod Marked
 pub mod Climbing
 pub mod Meetings
 pub mod Holding
+pub mod Placed
+pub mod Weighed
+pub mod Parents
 pub mod Cases
