@@ -5,8 +5,8 @@
 -- rooms; `Marked`, no reference labelled twice; `Climbing`, arcs to larger references, into each but 0;
 -- `Meetings`, meetings made once, between labelled event nodes of one event; `Holding`, no reference held
 -- twice; `Placed`, literals at their places, and Ω at the top or beside a parallel; `Weighed`, what control
--- weighs, and `Parents`, arcs from labelled references, none made twice, and the parents of Ω; and `Cases`,
--- the runs of document 01 played by computation.
+-- weighs, and `Parents`, arcs from labelled references, none made twice, and the parents of Ω; `Outward`, arcs to
+-- fresh references alone; and `Cases`, the runs of document 01 played by computation.
 pub mod Derived
 pub mod Answered
 pub mod Quiet
@@ -21,4 +21,5 @@ pub mod Holding
 pub mod Placed
 pub mod Weighed
 pub mod Parents
+pub mod Outward
 pub mod Cases

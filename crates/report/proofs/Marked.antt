@@ -136,7 +136,7 @@ Fit (sequence w b P Q) = Fit P × Unentered Q
 Fit Ω = Unit {0}
 Fit ⊥′ = Unit {0}
 
-unentered-fit : (P : Process) → Unentered P → Fit P
+pub unentered-fit : (P : Process) → Unentered P → Fit P
 unentered-fit (leaf w l) u = tt
 unentered-fit (prefix w e P) u = u
 unentered-fit (internal w P Q) u = u
@@ -159,7 +159,7 @@ unentered-waits n m (sequence w b P Q) u = unentered-waits n m P (u .0)
 unentered-waits n m Ω u = refl
 unentered-waits n m ⊥′ u = refl
 
-untouched-unentered : (w : Place) (t : Term) → Unentered (untouched w t)
+pub untouched-unentered : (w : Place) (t : Term) → Unentered (untouched w t)
 unfolding untouched joined
 untouched-unentered w (Term.leaf l) = tt
 untouched-unentered w (Term.prefix k t) = untouched-unentered (below w 2) t

@@ -1,0 +1,6 @@
+-- Laws of the words of a run: `Laws`, of a word in range and out of it; `NodeLaws`, of the words after one is
+-- put; `Framed`, of what a control does not go by; `Chains`, of the sequences around what is held.
+pub mod Laws
+pub mod NodeLaws
+pub mod Framed
+pub mod Chains

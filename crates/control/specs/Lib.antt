@@ -1,0 +1,3 @@
+-- The words of a run, and how they hold a control.
+pub mod Words
+pub mod Control

@@ -1,0 +1,6 @@
+-- Laws of offers: `Returns` of what the definitions of the code are at each test, `Untouched` of terms that no
+-- step has touched, `Standing` of the control that stands at a reference, `Runs` of a run's offers and status.
+pub mod Returns
+pub mod Untouched
+pub mod Standing
+pub mod Runs

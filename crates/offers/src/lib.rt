@@ -1,0 +1,304 @@
+// What a run offers, and its status: the events that its control has derivations for, by following the control
+// and the terms below it downward. Nothing is written. It relies on the plan of the table, the words of the run
+// and sets of events.
+use control::ENTERED;
+use control::FRAME;
+use control::OMEGA;
+use control::STATE;
+use control::TERM;
+use control::UNTOUCHED;
+use control::word;
+use plans::around_of;
+use plans::kind_of;
+use plans::operand_of;
+use plans::second_of;
+use sets::either;
+use sets::empty;
+use sets::only;
+use sets::shared;
+ghost use mathlib.Core.Path.{_≡_};
+ghost use mathlib.Core.Bool.{_&&_};
+ghost use Prim.Native.Nat.{ℕ};
+ghost use Rattle.frames.specs.TableFrame.{term-room};
+ghost use Rattle.places.specs.Code.{look};
+ghost use Rattle.report.specs.Process.{Process};
+ghost use Rattle.report.specs.Offers.{status};
+ghost use Rattle.plans.specs.Plan.{Layout};
+ghost use Rattle.offers.specs.Code as code;
+ghost use Rattle.offers.specs.Code.{seen};
+ghost use Rattle.offers.specs.Told.{Low, Controls, Tells, Covers, status-of};
+
+// Whether τ and ✓ are offered, and which events.
+pub struct Offered {
+    pub tau: bool,
+    pub tick: bool,
+    pub events: u64,
+}
+
+// Ended at Ω, stuck where nothing is offered, and else live.
+pub enum Status {
+    Live,
+    Ended,
+    Stuck,
+}
+
+// The kinds that offers go by.
+const PREFIX: usize = 2;
+
+const EXTERNAL: usize = 4;
+
+const SEQUENCE: usize = 5;
+
+const PARALLEL: usize = 6;
+
+const SKIP: usize = 7;
+
+const TERMS: usize = 1024;
+
+// The words of the sides' references.
+const FIRST: usize = 4;
+
+const SECOND: usize = 5;
+
+// A path has at most 64 digits, so a term has at most 65 levels.
+const LEVELS: usize = 65;
+
+// A control has at most 1,024 cells, so it has at most as many levels. Calls are then at most 1,089 deep with a
+// few hundred bytes each, which the stack has room for.
+const CELLS: usize = 1024;
+
+// What a run at a reference offers.
+pub fn offers(
+    reference: usize,
+    plan: &[u16; 4096],
+    sets: &[u64; 1024],
+    nodes: &[u16; 65544],
+) -> Offered
+    ensures { λ r. ⌜ seen r ≡
+        code.offered (now (plan .entry)) (now (sets .entry)) (now (nodes .entry)) reference ⌝ }
+    ensures { λ r. ⌜ ((l : Layout) (P : Process) → Low l
+        → Controls l (now (plan .entry)) (now (sets .entry)) (now (nodes .entry)) reference P → Tells r P) ⌝ }
+{
+    if reference == 0 {
+        return unseen(true, false);
+    }
+    offers_at(reference, 0, 0, CELLS, plan, sets, nodes)
+}
+
+// The status of a run at a reference.
+pub fn status_at(
+    reference: usize,
+    plan: &[u16; 4096],
+    sets: &[u64; 1024],
+    nodes: &[u16; 65544],
+) -> Status
+    ensures { λ r. ⌜ r ≡ code.status
+        (now (plan .entry)) (now (sets .entry)) (now (nodes .entry)) reference ⌝ }
+    ensures { λ r. ⌜ ((l : Layout) (P : Process) (e : ℕ) → Low l
+        → Controls l (now (plan .entry)) (now (sets .entry)) (now (nodes .entry)) reference P
+        → Covers e P → status-of r ≡ status e P) ⌝ }
+{
+    if ended(reference, nodes) {
+        return Status::Ended;
+    }
+    let offered = offers(reference, plan, sets, nodes);
+    if offered.tau {
+        return Status::Live;
+    }
+    if offered.tick {
+        return Status::Live;
+    }
+    if empty(offered.events) {
+        return Status::Stuck;
+    }
+    Status::Live
+}
+
+// What is offered by what stands at reference n, inside sequences up to a bound; at reference 0 by a side that
+// has not stepped, of term t. At most `left` levels are followed.
+fn offers_at(
+    n: usize,
+    t: usize,
+    bound: usize,
+    left: usize,
+    plan: &[u16; 4096],
+    sets: &[u64; 1024],
+    nodes: &[u16; 65544],
+) -> Offered
+    ensures { λ r. ⌜ seen r ≡
+        code.at left (now (plan .entry)) (now (sets .entry)) (now (nodes .entry)) n t bound ⌝ }
+{
+    if left == 0 {
+        return unseen(false, false);
+    }
+    if n == 0 {
+        return offers_of_term(t, LEVELS, plan, sets);
+    }
+    let state = word(n, STATE, nodes);
+    if ENTERED < state {
+        return unseen(false, false);
+    }
+    let term = word(n, TERM, nodes);
+    let nested = followed(n, term, bound, plan, nodes);
+    if state == UNTOUCHED {
+        return settled(nested, offers_of_term(term, LEVELS, plan, sets));
+    }
+    let within = inside(n, term, plan, nodes);
+    let first = word(n, FIRST, nodes);
+    let second = word(n, SECOND, nodes);
+    let l = offers_at(first, first_of(term), within, left - 1, plan, sets, nodes);
+    let r = offers_at(
+        second,
+        second_of(term, plan),
+        within,
+        left - 1,
+        plan,
+        sets,
+        nodes,
+    );
+    let both = both_ended(first, second, nodes);
+    settled(
+        nested,
+        combined(kind_of(term, plan), set_of(term, sets), both, l, r),
+    )
+}
+
+// What a term that no step has touched offers.
+fn offers_of_term(t: usize, left: usize, plan: &[u16; 4096], sets: &[u64; 1024]) -> Offered
+    ensures { λ r. ⌜ seen r ≡ code.of-term left (now (plan .entry)) (now (sets .entry)) t ⌝ }
+{
+    if left == 0 {
+        return unseen(false, false);
+    }
+    let kind = kind_of(t, plan);
+    if kind < EXTERNAL {
+        return own(kind, operand_of(t, plan));
+    }
+    if PARALLEL < kind {
+        return own(kind, operand_of(t, plan));
+    }
+    let l = offers_of_term(first_of(t), left - 1, plan, sets);
+    if kind == SEQUENCE {
+        return settled(true, l);
+    }
+    let r = offers_of_term(second_of(t, plan), left - 1, plan, sets);
+    combined(kind, set_of(t, sets), false, l, r)
+}
+
+// What a term offers by its own kind: a prefix its event, SKIP ✓, a call, STOP and an internal choice τ.
+fn own(kind: usize, operand: usize) -> Offered
+    ensures { λ r. ⌜ seen r ≡ code.own kind operand ⌝ }
+{
+    if kind == PREFIX {
+        return Offered {
+            tau: false,
+            tick: false,
+            events: only((operand % 256) as u8),
+        };
+    }
+    if kind == SKIP {
+        return unseen(false, true);
+    }
+    unseen(true, false)
+}
+
+// What two sides offer: a choice what either does; a parallel the events that its set lets pass, τ for a side's
+// τ or ✓, and ✓ where both have ended.
+fn combined(kind: usize, set: u64, both: bool, l: Offered, r: Offered) -> Offered
+    ensures { λ o. ⌜ seen o ≡ code.combined kind set both (seen l) (seen r) ⌝ }
+{
+    if kind == PARALLEL {
+        return Offered {
+            tau: (l.tau | l.tick) | (r.tau | r.tick),
+            tick: both,
+            events: shared(set, l.events, r.events),
+        };
+    }
+    Offered {
+        tau: l.tau | r.tau,
+        tick: l.tick | r.tick,
+        events: either(l.events, r.events),
+    }
+}
+
+// ✓ told as τ where a sequence is around.
+fn settled(nested: bool, o: Offered) -> Offered
+    ensures { λ r. ⌜ seen r ≡ code.settled nested (seen o) ⌝ }
+{
+    if nested {
+        return Offered {
+            tau: o.tau | o.tick,
+            tick: false,
+            events: o.events,
+        };
+    }
+    o
+}
+
+// No visible event.
+fn unseen(tau: bool, tick: bool) -> Offered
+    ensures { λ r. ⌜ seen r ≡ code.unseen tau tick ⌝ }
+{
+    Offered {
+        tau: tau,
+        tick: tick,
+        events: 0,
+    }
+}
+
+// Whether a sequence is around the term that stands at reference n, up to a bound.
+fn followed(n: usize, term: usize, bound: usize, plan: &[u16; 4096], nodes: &[u16; 65544]) -> bool
+    ensures { λ r. ⌜ r ≡ code.followed (now (plan .entry)) (now (nodes .entry)) n term bound ⌝ }
+{
+    if around_of(term, plan) != 0 {
+        return true;
+    }
+    word(n, FRAME, nodes) != bound
+}
+
+// The bound of the sides of the choice or parallel that stands at reference n.
+fn inside(n: usize, term: usize, plan: &[u16; 4096], nodes: &[u16; 65544]) -> usize
+    ensures { λ r. ⌜ r ≡ code.bound (now (plan .entry)) (now (nodes .entry)) n term ⌝ }
+{
+    if kind_of(term, plan) == PARALLEL {
+        return n;
+    }
+    if around_of(term, plan) != 0 {
+        return n;
+    }
+    word(n, FRAME, nodes)
+}
+
+// Whether both sides are at Ω.
+fn both_ended(first: usize, second: usize, nodes: &[u16; 65544]) -> bool
+    ensures { λ r. ⌜ r ≡ code.ended (now (nodes .entry)) first && code.ended (now (nodes .entry)) second ⌝ }
+{
+    if ended(first, nodes) {
+        return ended(second, nodes);
+    }
+    false
+}
+
+// Whether what stands at a reference is Ω.
+fn ended(n: usize, nodes: &[u16; 65544]) -> bool
+    ensures { λ r. ⌜ r ≡ code.ended (now (nodes .entry)) n ⌝ }
+{
+    if n == 0 {
+        return false;
+    }
+    word(n, STATE, nodes) == OMEGA
+}
+
+// A term's first subterm.
+fn first_of(t: usize) -> usize
+    ensures { λ r. ⌜ r ≡ code.first-of t ⌝ }
+{
+    if t < TERMS { t + 1 } else { 0 }
+}
+
+// A term's set.
+fn set_of(t: usize, sets: &[u64; 1024]) -> u64
+    ensures { λ r. ⌜ r ≡ look term-room (now (sets .entry)) t ⌝ }
+{
+    if t < TERMS { sets[t] } else { 0 }
+}

@@ -1,0 +1,54 @@
+// The plan of a checked table: four words for each of its terms, as a step and its offers read them: its kind;
+// its operand, which is a prefix's event or the root that a call leads to; its second subterm; and the
+// sequence around it. It relies on the columns of the table check.
+mod laying;
+
+pub use laying::lay_out;
+ghost use mathlib.Core.Path.{_≡_};
+ghost use Prim.Native.Nat.{_<_};
+ghost use Rattle.plans.specs.Plan as of;
+
+const TERMS: usize = 1024;
+
+// A term's kind, 0 where there is no such term.
+pub fn kind_of(t: usize, plan: &[u16; 4096]) -> usize
+    ensures { λ r. ⌜ r ≡ of.kind (now (plan .entry)) t ⌝ }
+{
+    word(t, 0, plan)
+}
+
+// A prefix's event; the root that a call leads to.
+pub fn operand_of(t: usize, plan: &[u16; 4096]) -> usize
+    ensures { λ r. ⌜ r ≡ of.operand (now (plan .entry)) t ⌝ }
+{
+    word(t, 1, plan)
+}
+
+// A term's second subterm; its first is the term behind it.
+pub fn second_of(t: usize, plan: &[u16; 4096]) -> usize
+    ensures { λ r. ⌜ r ≡ of.second (now (plan .entry)) t ⌝ }
+{
+    word(t, 2, plan)
+}
+
+// One more than the nearest sequence that a term stands in the left of, with no choice or parallel between;
+// 0 where there is none.
+pub fn around_of(t: usize, plan: &[u16; 4096]) -> usize
+    ensures { λ r. ⌜ r ≡ of.around (now (plan .entry)) t ⌝ }
+{
+    word(t, 3, plan)
+}
+
+// Word k of a term.
+fn word(t: usize, k: usize, plan: &[u16; 4096]) -> usize
+    requires { ⌜ k < 4 ⌝ }
+    ensures { λ r. ⌜ r ≡ of.word k (now (plan .entry)) t ⌝ }
+{
+    if t < TERMS { wide(plan[4 * t + k]) } else { 0 }
+}
+
+fn wide(x: u16) -> usize
+    ensures { λ r. ⌜ r ≡ x ⌝ }
+{
+    x as usize
+}

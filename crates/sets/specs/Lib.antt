@@ -1,0 +1,2 @@
+-- What the functions on sets of events promise: `Told` says it by the sets' members.
+pub mod Told
