@@ -1,0 +1,166 @@
+// Steps of a run: an address is weighed, and where its derivation is there and fits the rooms, the step is taken.
+mod leaves;
+mod marks;
+mod sides;
+
+use control::Event;
+use control::FRAME;
+use control::SIDES;
+use control::SIZES;
+use control::STATE;
+use control::TERM;
+use control::UNTOUCHED;
+use control::put;
+use control::word;
+pub use leaves::call_start;
+use leaves::come;
+use leaves::take_end;
+use leaves::take_leaf;
+use plans::kind_of;
+use plans::second_of;
+use sides::close_both;
+use sides::close_one;
+use sides::enter;
+use sides::enter_side;
+use sides::put_side;
+use weighing::digit_at;
+use weighing::inside_of;
+use weighing::is_split;
+use weighing::sum;
+use weighing::taken;
+ghost use mathlib.Core.Path.{_≡_};
+ghost use Rattle.stepping.specs.Take as spec;
+
+const SEQUENCE: usize = 5;
+
+// How far a run has come: its next fresh reference, its nodes, arcs and meetings, and the event nodes of the step
+// that is being taken.
+pub struct Tally {
+    pub fresh: usize,
+    pub nodes: usize,
+    pub arcs: usize,
+    pub meetings: usize,
+    pub met: usize,
+}
+
+// What a step of a part of control comes to: its event; the reference of what stands there now; its cells; where its
+// digits end; and how far the run has come.
+pub struct Taken {
+    pub event: Event,
+    pub reference: usize,
+    pub size: usize,
+    pub at: usize,
+    pub tally: Tally,
+}
+
+// Takes the step of what stands at reference n, inside sequences up to frame `bound`, by the digits from `at` on.
+pub fn take(
+    n: usize,
+    bound: usize,
+    at: usize,
+    size: usize,
+    left: usize,
+    count: usize,
+    tally: Tally,
+    digits: &[u8; 1024],
+    plan: &[u16; 4096],
+    nodes: &mut [u16; 65544],
+    track: &mut [u16; 28672],
+) -> Taken
+    ensures { λ r. ⌜ r ≡ spec.take (now (plan .entry)) count (now (digits .entry)) left n bound at size tally
+        (now (nodes .entry)) (now (track .entry)) .taken ⌝ }
+    ensures { λ _. ⌜ now (nodes .exit) ≡ spec.take (now (plan .entry)) count (now (digits .entry)) left n bound at size tally
+        (now (nodes .entry)) (now (track .entry)) .nodes ⌝ }
+    ensures { λ _. ⌜ now (track .exit) ≡ spec.take (now (plan .entry)) count (now (digits .entry)) left n bound at size tally
+        (now (nodes .entry)) (now (track .entry)) .track ⌝ }
+{
+    if left == 0 {
+        return come(Event::Tau, n, size, at, tally);
+    }
+    let less = left - 1;
+    let t = word(n, TERM, nodes);
+    let kind = kind_of(t, plan);
+    let digit = digit_at(at, count, digits);
+    if word(n, STATE, nodes) == UNTOUCHED {
+        if kind == SEQUENCE {
+            put(n, TERM, sum(t, 1), nodes);
+            let larger = sum(size, 1);
+            return take(
+                n,
+                bound,
+                at,
+                larger,
+                less,
+                count,
+                tally,
+                digits,
+                plan,
+                nodes,
+                track,
+            );
+        }
+        if is_split(kind) {
+            let entered = enter(n, t, tally, nodes);
+            let larger = sum(size, 2);
+            return take(
+                n,
+                bound,
+                at,
+                larger,
+                less,
+                count,
+                entered,
+                digits,
+                plan,
+                nodes,
+                track,
+            );
+        }
+        return take_leaf(n, bound, at, size, digit, tally, plan, nodes, track);
+    }
+    if digit == 4 {
+        return take_end(n, bound, at, size, tally, plan, nodes, track);
+    }
+    let inside = inside_of(kind, t, n, word(n, FRAME, nodes), plan);
+    let side = taken(digit, 1, 2);
+    let own = word(n, SIZES + side, nodes);
+    let other = word(n, SIZES + 3 - side, nodes);
+    let second = second_of(t, plan);
+    let subterm = taken(digit, sum(t, 1), second);
+    let drawn = enter_side(n, side, subterm, inside, tally, nodes, track);
+    let reference = word(n, SIDES + side, nodes);
+    let next = sum(at, 1);
+    let done = take(
+        reference,
+        inside,
+        next,
+        own,
+        less,
+        count,
+        drawn,
+        digits,
+        plan,
+        nodes,
+        track,
+    );
+    if digit != 3 {
+        return close_one(n, side, bound, size, own, other, done, plan, nodes, track);
+    }
+    put_side(n, 1, done.reference, done.size, nodes);
+    let entered = enter_side(n, 2, second, inside, done.tally, nodes, track);
+    let right = word(n, SIDES + 2, nodes);
+    let across = take(
+        right,
+        inside,
+        done.at,
+        other,
+        less,
+        count,
+        entered,
+        digits,
+        plan,
+        nodes,
+        track,
+    );
+    close_both(n, size, own, other, tally.met, done, across, nodes, track)
+}
