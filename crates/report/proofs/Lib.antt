@@ -1,18 +1,20 @@
 -- Laws of the report's rules: `Derived`, the step of an address is the derivation that it names; `Answered`,
 -- when an address is accepted and which refusal it meets otherwise; `Quiet`, a step of τ or ✓ has no event
 -- nodes; `Stripped`, what a step is with tracking stripped; `Offered`, offers are the derivations' events;
--- `Stuck`, what a status says of the derivations; what every run keeps: `Drawn`, arcs into each side, and the
--- rooms; `Marked`, no reference labelled twice; `Climbing`, arcs to larger references, into each but 0;
--- `Meetings`, meetings made once, between labelled event nodes of one event; `Holding`, no reference held
--- twice; `Placed`, literals at their places, and Ω at the top or beside a parallel; `Weighed`, what control
--- weighs, and `Parents`, arcs from labelled references, none made twice, and the parents of Ω; `Outward`, arcs to
--- fresh references alone; and `Cases`, the runs of document 01 played by computation.
+-- `Stuck`, what a status says of the derivations; what every run keeps: `Ranged`, calls and events in range
+-- of the table; `Drawn`, arcs into each side, and the rooms; `Marked`, no reference labelled twice;
+-- `Climbing`, arcs to larger references, into each but 0; `Meetings`, meetings made once, between labelled
+-- event nodes of one event; `Holding`, no reference held twice; `Placed`, literals at their places, and Ω at
+-- the top or beside a parallel; `Weighed`, what control weighs, and `Parents`, arcs from labelled references,
+-- none made twice, and the parents of Ω; `Outward`, arcs to fresh references alone; and `Cases`, the runs of
+-- document 01 played by computation.
 pub mod Derived
 pub mod Answered
 pub mod Quiet
 pub mod Stripped
 pub mod Offered
 pub mod Stuck
+pub mod Ranged
 pub mod Drawn
 pub mod Marked
 pub mod Climbing

@@ -39,7 +39,7 @@ no-leaf SKIP k h = let z : _≡_ {A = ℕ} 0 1 = cc in omega arith
 no-leaf STOP k h = let z : _≡_ {A = ℕ} 0 1 = cc in omega arith
 
 -- what a control offers is one of its own events
-among-offers : (n k : ℕ) (P : Process) → Among n P → offers-event k P ≡ true → k < n
+pub among-offers : (n k : ℕ) (P : Process) → Among n P → offers-event k P ≡ true → k < n
 unfolding offers-event
 among-offers n k (leaf w l) t h = absurd (no-leaf l k h)
 among-offers n k (prefix w e P) t h = let same = eqb-true k e h in omega (arith, t .0)
