@@ -4,9 +4,9 @@
 -- a choice inside a sequence, whose own term and frame tell the rest.
 use Prim.Native.Nat.{ℕ, suc, _<_}
 use mathlib.Core.Path.{_≡_}
-use mathlib.Core.Bool.{Bool, true, false}
+use mathlib.Core.Bool.{true, false}
 use mathlib.Core.List.{List, [], _∷_}
-use mathlib.Core.Option.{Option, none, some}
+use mathlib.Core.Option.{none, some}
 use lib.ListN.{getD}
 use lib.Dec.{eqb}
 use Rattle.lines.specs.Line.{choose}

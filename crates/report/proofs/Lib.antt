@@ -6,8 +6,9 @@
 -- `Climbing`, arcs to larger references, into each but 0; `Meetings`, meetings made once, between labelled
 -- event nodes of one event; `Holding`, no reference held twice; `Placed`, literals at their places, and Ω at
 -- the top or beside a parallel; `Weighed`, what control weighs, and `Parents`, arcs from labelled references,
--- none made twice, and the parents of Ω; `Outward`, arcs to fresh references alone; and `Cases`, the runs of
--- document 01 played by computation.
+-- none made twice, and the parents of Ω; `Sided`, where the sides of a choice or parallel begin, `Gauged`, what a
+-- gauge reads, and `Branches`, arcs between labelled nodes; `Outward`, arcs to fresh references alone; and
+-- `Cases`, the runs of document 01 played by computation.
 pub mod Derived
 pub mod Answered
 pub mod Quiet
@@ -23,5 +24,8 @@ pub mod Holding
 pub mod Placed
 pub mod Weighed
 pub mod Parents
+pub mod Sided
+pub mod Gauged
+pub mod Branches
 pub mod Outward
 pub mod Cases

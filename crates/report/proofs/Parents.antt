@@ -16,9 +16,9 @@ use Rattle.terms.specs.Term.{SKIP, Term}
 use Rattle.terms.specs.Term as Term
 use Rattle.places.specs.Place.{Place}
 use Rattle.report.specs.Process.{Address, Split, choice, together, Process, leaf, prefix, split, sequence}
-use Rattle.report.specs.Process.{Ω, ⊥′, below, untouched, main}
+use Rattle.report.specs.Process.{Ω, below, untouched, main}
 use Rattle.report.specs.Track.{Label, Pair, pair, At, Outcome, labelled, prefixed, first-eval, inside}
-use Rattle.report.specs.Track.{around, beside, right-eval, jointly, carried, started, parents, ended}
+use Rattle.report.specs.Track.{around, right-eval, jointly, carried, started, parents, ended}
 use Rattle.report.specs.Tracking.{Tracks, process-call, prefixing, skip, stop, internal-choice-1}
 use Rattle.report.specs.Tracking.{internal-choice-2, external-choice-1, external-choice-2}
 use Rattle.report.specs.Tracking.{external-choice-3, external-choice-4, sequential-composition-1}
@@ -38,9 +38,9 @@ use Rattle.report.proofs.Weighed.{has-right-behind, kept-side, Within, 
 use Rattle.report.proofs.Weighed.{weight-labelled, some-weight, skip-at, skip-weighed, skip-sure}
 
 -- a move from P, which stands as s says, to Q at m, with the next fresh reference f, labels ls and arcs g added
-record Moves (ts : List Term) (P : Process) (s : At) (Q : Process) (m f : ℕ) (ls : List Label) (g : List Pair)
+pub record Moves (ts : List Term) (P : Process) (s : At) (Q : Process) (m f : ℕ) (ls : List Label) (g : List Pair)
     : Type 0 where
-  once : (i j : ℕ) → between i j g + drawn j (s .fresh) ≤ drawn j f
+  pub once : (i j : ℕ) → between i j g + drawn j (s .fresh) ≤ drawn j f
   weighs : (x : Scale ts) → total x (s .arcs ++ g) m Q + x .before (s .fresh)
       ≤ total x (s .arcs) (s .reference) P + weight-of (x .label) ls + x .before f
   from : (n : ℕ)
@@ -48,20 +48,20 @@ record Moves (ts : List Term) (P : Process) (s : At) (Q : Process) (m f : ℕ) (
       → out n g ≡ 0
 
 -- where Q stands behind a move, and where a side that stands at m does
-abbrev moved : At → ℕ → ℕ → List Pair → At
+abbrev pub moved : At → ℕ → ℕ → List Pair → At
 moved s m f g = record { reference = m; fresh = f; arcs = s .arcs ++ g }
 
-abbrev standing : At → ℕ → At
+abbrev pub standing : At → ℕ → At
 standing s m = record { reference = m; fresh = s .fresh; arcs = s .arcs }
 
 -- where a process can move
-record Ready (ts : List Term) (P : Process) (s : At) : Type 0 where
-  located : Located ts P
-  few : (n : ℕ) → total (parts ts n) (s .arcs) (s .reference) P ≤ drawn n (s .fresh)
+pub record Ready (ts : List Term) (P : Process) (s : At) : Type 0 where
+  pub located : Located ts P
+  pub few : (n : ℕ) → total (parts ts n) (s .arcs) (s .reference) P ≤ drawn n (s .fresh)
   earlier : (i j : ℕ) → between i j (s .arcs) ≤ drawn j (s .fresh)
 
 -- the next fresh reference has no arc into it
-unled : {ts : List Term} {P : Process} (s : At) → Ready ts P s → Unled (s .fresh) (s .arcs)
+pub unled : {ts : List Term} {P : Process} (s : At) → Ready ts P s → Unled (s .fresh) (s .arcs)
 unled s h i = omega (arith, h .earlier i (s .fresh), undrawn (s .fresh) (s .fresh) (omega arith))
 
 module _ {ts : List Term} where
@@ -87,7 +87,7 @@ module _ {ts : List Term} where
         omega (arith, first, second, sum-append (leaves n) g g′);
   }
 
-  ready-behind : {P Q : Process} {s : At} {m f : ℕ} {ls : List Label} {g : List Pair} → Ready ts P s
+  pub ready-behind : {P Q : Process} {s : At} {m f : ℕ} {ls : List Label} {g : List Pair} → Ready ts P s
       → Moves ts P s Q m f ls g → Located ts Q → Ready ts Q (moved s m f g)
   ready-behind {s = s} {ls = ls} {g = g} h k l = record {
     located = l;
@@ -109,7 +109,7 @@ module _ {ts : List Term} where
     from = λ n z. omega arith;
   }
 
-  beginning : {P Q : Process} (w : Place) (s : At) → New ts Q
+  pub beginning : {P Q : Process} (w : Place) (s : At) → New ts Q
       → Moves ts P s Q (s .fresh) (suc (s .fresh)) (record { reference = s .reference; place = w } ∷ [])
       (pair (s .reference) (s .fresh) ∷ [])
   beginning w s u =
@@ -140,7 +140,7 @@ module _ {ts : List Term} where
   unfolding total
   onward k = record { once = k .once; weighs = k .weighs; from = k .from }
 
-  onward-ready : {w : Place} {b : Bool} {P Q : Process} {s : At} → Ready ts (sequence w b P Q) s → Ready ts P s
+  pub onward-ready : {w : Place} {b : Bool} {P Q : Process} {s : At} → Ready ts (sequence w b P Q) s → Ready ts P s
   unfolding total
   onward-ready {P = P} h =
       let (t, u, e, p, q) = h .located in
@@ -173,7 +173,7 @@ module _ {ts : List Term} where
     }
 
   module _ {w : Place} {k : Split} {P Q R : Process} {s : At} {c m f : ℕ} {ls : List Label} {g : List Pair} where
-    left-stays : {b : Option ℕ} → Ready ts (split w k (some c) b P Q) s → Moves ts P (standing s c) R m f ls g
+    pub left-stays : {b : Option ℕ} → Ready ts (split w k (some c) b P Q) s → Moves ts P (standing s c) R m f ls g
         → Moves ts (split w k (some c) b P Q) s (split w k (some m) b R Q) (s .reference) f ls g
     left-stays {b = b} h l =
         staying Q w c b (has-left (s .reference) w k (some c) b P Q) l
@@ -194,11 +194,11 @@ module _ {ts : List Term} where
     right-taken {a = a} l = dropping P w c a (has-right (s .reference) w k a (some c) P Q) l
 
 -- R is entered on the side of P, and is R′ then
-record Entry (ts : List Term) (own met : Option ℕ) (w : Place) (s : At) (P R R′ : Process) : Type 0 where
-  moves : Moves ts R s R′ (s .reference) (first-eval own met w s .fresh) (first-eval own met w s .labels)
+pub record Entry (ts : List Term) (own met : Option ℕ) (w : Place) (s : At) (P R R′ : Process) : Type 0 where
+  pub moves : Moves ts R s R′ (s .reference) (first-eval own met w s .fresh) (first-eval own met w s .labels)
       (first-eval own met w s .arcs)
-  whole : Ready ts R′ (moved s (s .reference) (first-eval own met w s .fresh) (first-eval own met w s .arcs))
-  part : Ready ts P (inside (first-eval own met w s) s)
+  pub whole : Ready ts R′ (moved s (s .reference) (first-eval own met w s .fresh) (first-eval own met w s .arcs))
+  pub part : Ready ts P (inside (first-eval own met w s) s)
 
 module _ {ts : List Term} where
   -- the side joins in, at a fresh reference
@@ -270,7 +270,7 @@ module _ {ts : List Term} where
         };
       }
 
-  left-entry : {w : Place} {k : Split} {a b : Option ℕ} {P Q : Process} {s : At}
+  pub left-entry : {w : Place} {k : Split} {a b : Option ℕ} {P Q : Process} {s : At}
       → Ready ts (split w k a b P Q) s
       → Entry ts a b w s P (split w k a b P Q) (split w k (some (first-eval a b w s .reference)) b P Q)
   unfolding child
@@ -280,7 +280,7 @@ module _ {ts : List Term} where
       (has-left (s .reference) w k _ b P Q) (found-below ts w 1 _ e) p h (λ p′. (t, u, e, p′, q))
 
   -- `met` is what the right finds of the left where it steps
-  right-entry : (met : Option ℕ) {w : Place} {k : Split} {a b : Option ℕ} {P Q : Process} {s : At}
+  pub right-entry : (met : Option ℕ) {w : Place} {k : Split} {a b : Option ℕ} {P Q : Process} {s : At}
       → Has ts (split w k a b P Q) (s .reference) w b met a Q P → Ready ts (split w k a b P Q) s
       → Entry ts b met w s Q (split w k a b P Q) (split w k a (some (first-eval b met w s .reference)) P Q)
   unfolding child
@@ -300,7 +300,7 @@ skip-placed ts w (inr e) = let z : _≡_ {A = ℕ} 0 1 = cc in absurd (omega ari
 
 module _ (ts : List Term) where
   -- each rule is a chain of moves
-  leading : {a : Address} {P : Process} {s : At} {r : Outcome} → Tracks ts a P s r → Ready ts P s
+  pub leading : {a : Address} {P : Process} {s : At} {r : Outcome} → Tracks ts a P s r → Ready ts P s
       → Leads ts P s r
   unfolding total labelled prefixed around jointly carried started ended
   leading (process-call {n = n} {w = w} {s = s}) h = beginning w s (rhs-new n (getElem? ts n))
@@ -377,7 +377,7 @@ module _ (ts : List Term) where
   abbrev Run : State → Type 0
   Run s = Moves ts main (stands start) (s .process) (s .reference) (s .fresh) (s .labels) (s .arcs)
 
-  runs : {s : State} → Reached ts s → Run s
+  pub runs : {s : State} → Reached ts s → Run s
   unfolding after sum
   runs begun = record { once = λ i j. omega arith; weighs = λ x. omega arith; from = λ n z. refl }
   runs (goes-on {s = s} {t = t} a e p h) =
@@ -385,7 +385,7 @@ module _ (ts : List Term) where
       let k = runs p in
       subst Run (d .3) (chain k (leading (d .1) (ready-behind start-ready k (reached-located ts p))))
 
-  run-ready : {s : State} → Reached ts s → Ready ts (s .process) (stands s)
+  pub run-ready : {s : State} → Reached ts s → Ready ts (s .process) (stands s)
   run-ready p = ready-behind start-ready (runs p) (reached-located ts p)
 
   -- no arc is made twice

@@ -25,7 +25,7 @@ use Rattle.report.proofs.Marked.{one, tally}
 unfoldable pub share : ℕ → ℕ → ℕ → ℕ
 share n m x = choose (eqb n m) x 0
 
-share-most : (n m x : ℕ) → share n m x ≤ x
+pub share-most : (n m x : ℕ) → share n m x ≤ x
 unfolding share
 share-most n m x = go (eqb n m)
   where
@@ -41,11 +41,11 @@ share-more n m x y l = go (eqb n m)
     go true = l
     go false = omega arith
 
-share-is : (n m x : ℕ) → eqb n m ≡ true → share n m x ≡ x
+pub share-is : (n m x : ℕ) → eqb n m ≡ true → share n m x ≡ x
 unfolding share
 share-is n m x e = rw e
 
-share-not : (n m x : ℕ) → eqb n m ≡ false → share n m x ≡ 0
+pub share-not : (n m x : ℕ) → eqb n m ≡ false → share n m x ≡ 0
 unfolding share
 share-not n m x e = rw e
 

@@ -1,6 +1,5 @@
 -- The steps that look no further down, whatever the words hold: what they come to, and the words after them.
 use Prim.Native.Nat.{ℕ, _+_, _-_, _%_}
-use mathlib.Core.Bool.{Bool}
 use mathlib.Core.List.{List}
 use lib.Dec.{eqb}
 use Rattle.lines.specs.Line.{choose}

@@ -7,8 +7,7 @@ use Rattle.frames.specs.Kind as Kind
 use Rattle.plans.specs.Plan.{kind, second}
 use Rattle.control.specs.Words.{node, put}
 use Rattle.control.specs.Control.{state, term, frame, resting}
-use Rattle.control.specs.declared.Event.{Event}
-use Rattle.control.specs.declared.Event.the-variants.{Tau, Tick, Visible}
+use Rattle.control.specs.declared.Event.the-variants.{Tau}
 use Rattle.weighing.specs.Sums.{capped}
 use Rattle.weighing.specs.Looking.{digit-at, is-split, taken, inside}
 use Rattle.stepping.specs.Leaves.{Done, with-words, come, leaf, end}

@@ -23,7 +23,7 @@ use Rattle.plans.specs.Plan.{Layout, kind, second, around, Planned}
 use Rattle.control.specs.Words.{node}
 use Rattle.control.specs.Control as Control
 use Rattle.control.specs.Control.{state, term, frame, at-end, Around, split-kind, Untouched, Rests, Splits}
-use Rattle.control.specs.Control.{Follows, Holds}
+use Rattle.control.specs.Control.{Holds}
 use Rattle.weighing.specs.Sums.{capped}
 use Rattle.weighing.specs.Rules as Rules
 use Rattle.weighing.specs.Rules.{resized}

@@ -1,7 +1,7 @@
 -- What a step looks up on its way, whatever the words hold.
 use Prim.Native.Nat.{ℕ, zero, suc, _+_, _*_, _-_}
-use mathlib.Core.Bool.{Bool, true, false, _&&_, _||_, not}
-use mathlib.Core.List.{List, [], _∷_}
+use mathlib.Core.Bool.{Bool, _&&_, _||_, not}
+use mathlib.Core.List.{List}
 use lib.ListN.{getD}
 use lib.Dec.{eqb, ltb, leb}
 use Rattle.lines.specs.Line.{choose}
@@ -10,10 +10,9 @@ use Rattle.frames.specs.TableFrame.{term-room}
 use Rattle.control.specs.Words.{node, track-word}
 use Rattle.control.specs.Control as Control
 use Rattle.control.specs.Control.{state, at-end}
-use Rattle.plans.specs.Plan.{around}
 use Rattle.weighing.specs.Rules.{ended}
 use Rattle.weighing.specs.declared.Weighed.{Weighed}
-use Rattle.weighing.specs.declared.Weighed.the-variants.{Derived, Nothing}
+use Rattle.weighing.specs.declared.Weighed.the-variants.{Nothing}
 
 -- the digit at a place of an address, 0 behind its last
 unfoldable pub digit-at : List ℕ → ℕ → ℕ → ℕ

@@ -1,7 +1,7 @@
 -- The weight of a step, whatever the words hold: of a term that no step has touched, and of what stands at a
 -- reference. The first number bounds how deep it is gone.
 use Prim.Native.Nat.{ℕ, zero, suc, _+_, _-_}
-use mathlib.Core.Bool.{Bool, true, false, not}
+use mathlib.Core.Bool.{Bool, false, not}
 use mathlib.Core.List.{List}
 use lib.Dec.{eqb}
 use Rattle.lines.specs.Line.{choose}
@@ -13,7 +13,7 @@ use Rattle.weighing.specs.Sums.{capped}
 use Rattle.weighing.specs.Rules.{by-leaf, entering, end-of, one, both}
 use Rattle.weighing.specs.Looking.{digit-at, is-split, is-side, taken, is-within, set-of, inside, weigh-end}
 use Rattle.weighing.specs.declared.Weighed.{Weighed}
-use Rattle.weighing.specs.declared.Weighed.the-variants.{Derived, Nothing}
+use Rattle.weighing.specs.declared.Weighed.the-variants.{Nothing}
 
 -- how many levels of a term are gone down to, at most
 abbrev pub levels : ℕ
