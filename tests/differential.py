@@ -3,8 +3,9 @@
     python3 tests/differential.py [--count N] [--seed S] [--first I] [--program NAME]
 
 It runs target/bin/NAME once for every input, as the kit's rt runs it, and holds what the program prints
-against independent.listing. The first difference ends the run with status 1; what is printed then says how
-to see it again. Without any, one line tells the inputs, the outcomes and the seconds.
+against the independent program's listing: judge on the inputs of generate.py, play on those of runs.py. The
+first difference ends the run with status 1; what is printed then says how to see it again. Without any, one
+line tells the inputs, the outcomes and the seconds.
 """
 
 import argparse
@@ -17,10 +18,12 @@ import pathlib
 import sys
 import tempfile
 import time
-from typing import NamedTuple
+from typing import Callable, NamedTuple
 
 import generate
 import independent
+import rules
+import runs
 from programs import Answer, answer_of, binary_of, prepare
 
 WORKERS = 2
@@ -29,6 +32,24 @@ SECONDS_BETWEEN_WORDS = 5
 SHORT_INPUT = 1_000  # bytes that are shown as they are
 LINES_SHOWN = 24
 COLUMN = 72
+
+
+# ---- what is compared
+
+
+class Subject(NamedTuple):
+    """How a program's inputs are made, what it has to print for one, and what that comes to."""
+
+    generate: Callable
+    family_of: Callable
+    listing: Callable
+    outcome: Callable
+
+
+SUBJECTS = {
+    "judge": Subject(generate.generate, generate.family_of, independent.listing, independent.outcome),
+    "play": Subject(runs.generate, runs.family_of, rules.play_listing, rules.play_outcome),
+}
 
 
 # ---- comparing
@@ -40,19 +61,19 @@ class Compared(NamedTuple):
     difference: Answer | None  # the program's answer where it is another one
 
 
-def compare(started, seed, index):
-    given = generate.generate(seed, index)
-    expected = independent.listing(given)
+def compare(subject, started, seed, index):
+    given = subject.generate(seed, index)
+    expected = subject.listing(given)
     answer = answer_of(started, given)
-    return Compared(index, independent.outcome(expected), None if answer == Answer(expected, "") else answer)
+    return Compared(index, subject.outcome(expected), None if answer == Answer(expected, "") else answer)
 
 
-def compare_all(started, seed, first, count):
+def compare_all(subject, started, seed, first, count):
     """Compares input after input; gives the counts of the outcomes and the first difference or None."""
     outcomes = collections.Counter()
     began = told = time.monotonic()
     with multiprocessing.Pool(WORKERS) as pool:
-        one = functools.partial(compare, started, seed)
+        one = functools.partial(compare, subject, started, seed)
         for compared in pool.imap(one, range(first, first + count), INPUTS_AT_A_TIME):
             if compared.difference is not None:
                 return outcomes, compared
@@ -93,13 +114,14 @@ def side_by_side(expected, wrote):
 
 def tell_difference(program, seed, compared):
     """Prints the first difference; the input and both outputs are kept whole in a folder of their own."""
-    given = generate.generate(seed, compared.index)
-    expected = independent.listing(given)
+    subject = SUBJECTS[program]
+    given = subject.generate(seed, compared.index)
+    expected = subject.listing(given)
     answer = compared.difference
     kept = pathlib.Path(tempfile.mkdtemp(prefix="differential-"))
     for name, content in (("input", given), ("independent", expected), ("program", answer.output)):
         (kept / name).write_bytes(content)
-    index, family = compared.index, generate.family_of(compared.index).__name__
+    index, family = compared.index, subject.family_of(compared.index).__name__
     print(f"DIFFERENT: seed {seed}, index {index}, family {family}")
     print(f"again: python3 tests/differential.py --program {program} --seed {seed} --first {index} --count 1")
     print(f"the input, {len(given)} bytes: {kept / 'input'}; both outputs are beside it")
@@ -118,12 +140,12 @@ def run(program, seed, first, count):
         return 2
     began = time.monotonic()
     with tempfile.TemporaryDirectory() as room:
-        outcomes, different = compare_all(prepare(binary, pathlib.Path(room)), seed, first, count)
+        started = prepare(binary, pathlib.Path(room))
+        outcomes, different = compare_all(SUBJECTS[program], started, seed, first, count)
     if different is not None:
         tell_difference(program, seed, different)
         return 1
-    counts = ", ".join(f"{outcome} {times}" for outcome, times in sorted(outcomes.items()))
-    seconds = time.monotonic() - began
+    counts, seconds = generate.told_counts(outcomes), time.monotonic() - began
     print(f"{program}: {outcomes.total()} inputs, seed {seed}, no difference: {counts}; {seconds:.1f} s")
     return 0
 
@@ -133,7 +155,7 @@ def main():
     arguments.add_argument("--count", type=int, default=2_500, help="how many inputs (2500)")
     arguments.add_argument("--seed", type=int, default=generate.DEFAULT_SEED, help="the seed of all inputs")
     arguments.add_argument("--first", type=int, default=0, help="the first input's index (0)")
-    arguments.add_argument("--program", default="judge", help="the program in target/bin (judge)")
+    arguments.add_argument("--program", default="judge", choices=SUBJECTS, help="which of target/bin (judge)")
     chosen = arguments.parse_args()
     return run(chosen.program, chosen.seed, chosen.first, chosen.count)
 

@@ -743,28 +743,43 @@ def generate(seed, index):
     return family_of(index)(random.Random(f"{seed} {index}")).encode("latin-1")
 
 
-def measure(seed, count):
+def outcome(given):
+    return independent.outcome(independent.listing(given))
+
+
+def measure(seed, count, make, family, outcome_of):
     """How often each family meets each outcome."""
     met = collections.defaultdict(collections.Counter)
     for index in range(count):
-        outcome = independent.outcome(independent.listing(generate(seed, index)))
-        for name in (family_of(index).__name__, "all"):
-            met[name][outcome] += 1
+        outcome_met = outcome_of(make(seed, index))
+        for name in (family(index).__name__, "all"):
+            met[name][outcome_met] += 1
     return met
 
 
-def main():
-    arguments = argparse.ArgumentParser(description="inputs for the program judge")
+def told_counts(outcomes):
+    """The counts of the outcomes on one line, those of one word in the order of their numbers."""
+
+    def word_and_number(outcome_met):
+        word, _, number = outcome_met.partition(" ")
+        return word, int(number or 0)
+
+    return ", ".join(f"{each} {outcomes[each]}" for each in sorted(outcomes, key=word_and_number))
+
+
+def command(description, make, family, outcome_of):
+    """The command line of a generator."""
+    arguments = argparse.ArgumentParser(description=description)
     arguments.add_argument("--seed", type=int, default=DEFAULT_SEED)
     arguments.add_argument("--index", type=int, help="write this input")
     arguments.add_argument("--count", type=int, default=2_500, help="measure so many inputs")
     chosen = arguments.parse_args()
     if chosen.index is not None:
-        sys.stdout.buffer.write(generate(chosen.seed, chosen.index))
+        sys.stdout.buffer.write(make(chosen.seed, chosen.index))
         return
-    for name, outcomes in measure(chosen.seed, chosen.count).items():
-        print(f"{name}:", ", ".join(f"{outcome} {times}" for outcome, times in sorted(outcomes.items())))
+    for name, outcomes in measure(chosen.seed, chosen.count, make, family, outcome_of).items():
+        print(f"{name}:", told_counts(outcomes))
 
 
 if __name__ == "__main__":
-    main()
+    command("inputs for the program judge", generate, family_of, outcome)

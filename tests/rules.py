@@ -2,9 +2,10 @@
 
 It is written from document 01 and the report's Fig. 7, and shares nothing with the crates. A step changes one
 track in place and takes back what it added where it is refused. `listing` gives what document 01's tracking
-program prints for an input:
+program prints for an input, and `play_listing` what the program play prints:
 
     python3 tests/rules.py < input
+    python3 tests/rules.py play < input
 """
 
 import sys
@@ -309,6 +310,15 @@ class Run:
 # ---- saving
 
 
+def text_of(lines):
+    return "".join(line + "\n" for line in lines)
+
+
+def node_bytes(number, place):
+    """A node's number and place, as a node's line tells them behind its first byte."""
+    return "%04x%02x%02x%s" % (number, place.definition, len(place.path), bytes(place.path).hex())
+
+
 def walk(labels, arcs_from):
     """The labelled references in the order of document 01's walk."""
     numbers, pending = {}, [0] if labels else []
@@ -334,14 +344,13 @@ def saved_text(track):
     meetings = [sorted((numbers[i], numbers[j])) for i, j in track.meetings]
     lines = ["3001%04x%04x%04x" % (len(numbers), len(arcs), len(meetings))]
     for reference, number in numbers.items():
-        definition, path = labels[reference]
-        lines.append("31%04x%02x%02x%s" % (number, definition, len(path), bytes(path).hex()))
+        lines.append("31" + node_bytes(number, labels[reference]))
     lines += ["32%04x%04x" % arc for arc in sorted((numbers[i], numbers[j]) for i, j in arcs)]
     lines += ["33%04x%04x" % tuple(meeting) for meeting in sorted(meetings)]
-    return "".join(line + "\n" for line in lines + ["3f"])
+    return text_of(lines + ["3f"])
 
 
-# ---- the listing of the tracking program
+# ---- the listings of the tracking program and of the program play
 
 
 def event_line(event):
@@ -372,19 +381,69 @@ def run_listing(run, script_text):
     return lines + ["41%02x" % status(run.control)] + refusal
 
 
-def listing(given):
-    """What the tracking program prints for an input."""
+def listing_with(tell_track, given):
+    """An input's steps, status and refusal, with the run's track told behind them; or a refusal alone."""
     table_text, script_text = cut_input(given)
     table = judge_table(table_text)
     if isinstance(table, Refusal):
-        return (refusal_line(table) + "\n").encode("ascii")
+        return text_of([refusal_line(table)]).encode("ascii")
     if len(script_text) > SCRIPT_ROOM:
-        return (refusal_line(Refusal(6, 0)) + "\n").encode("ascii")
+        return text_of([refusal_line(Refusal(6, 0))]).encode("ascii")
     run = Run(table)
-    told = "".join(line + "\n" for line in run_listing(run, script_text))
+    told = text_of(run_listing(run, script_text))
+    return (told + tell_track(run)).encode("ascii")
+
+
+def saved_in_its_room(run):
     text = saved_text(run.track)
-    return (told + (text if len(text) <= SAVE_ROOM else "4e0c0000\n")).encode("ascii")
+    return text if len(text) <= SAVE_ROOM else "4e0c0000\n"
+
+
+def listing(given):
+    """What the tracking program prints for an input."""
+    return listing_with(saved_in_its_room, given)
+
+
+def offers_line(control):
+    offered = offers(control)
+    visible = sum(1 << event for event in offered - {TAU, TICK})
+    return "42%02x%02x%016x" % (TAU in offered, TICK in offered, visible)
+
+
+def counters_line(run):
+    track = run.track
+    made = len(track.labels), len(track.arcs), len(track.meetings)
+    return "43" + "%04x" * 6 % (run.reference, track.fresh, cells(run.control), *made)
+
+
+def track_by_references(run):
+    """What is offered, the counters, and the track by its references, in the order made."""
+    lines = [offers_line(run.control), counters_line(run)]
+    lines += ["51" + node_bytes(*label) for label in sorted(run.track.labels)]
+    lines += ["52%04x%04x" % arc for arc in run.track.arcs]
+    lines += ["53%04x%04x" % meeting for meeting in run.track.meetings]
+    return text_of(lines)
+
+
+def play_listing(given):
+    """What the program play prints for an input."""
+    return listing_with(track_by_references, given)
+
+
+def play_outcome(told):
+    """In a word or two what play's listing comes to: its status, or the number of the refusal that ended it.
+
+    `text R` is a refusal that stands alone, of a table or of a script over its room.
+    """
+    lines = told.decode("ascii").splitlines()
+    if lines[0].startswith("4e"):
+        return f"text {int(lines[0][2:4], 16)}"
+    behind = next(number for number, line in enumerate(lines) if line.startswith("41"))
+    if lines[behind + 1].startswith("4e"):
+        return f"refused {int(lines[behind + 1][2:4], 16)}"
+    return {LIVE: "live", ENDED: "ended", STUCK: "stuck"}[int(lines[behind][2:], 16)]
 
 
 if __name__ == "__main__":
-    sys.stdout.buffer.write(listing(sys.stdin.buffer.read()))
+    tell = play_listing if sys.argv[1:] == ["play"] else listing
+    sys.stdout.buffer.write(tell(sys.stdin.buffer.read()))
