@@ -1,0 +1,236 @@
+// Runs: started, stepped by an address, or by a line of a script. A step is weighed first, and only one that has a
+// derivation and fits the rooms is taken, so that a refused one leaves every word as it was.
+mod counting;
+
+use control::Event;
+use counting::ARCS;
+use counting::CELLS;
+use counting::REFERENCE;
+use counting::counter;
+use counting::over_room;
+use counting::recount;
+use counting::tally_of;
+use scripts::Step;
+use scripts::next_step;
+use stepping::Taken;
+use stepping::call_start;
+use stepping::take;
+use weighing::Weighed;
+use weighing::Weight;
+use weighing::weigh_at;
+ghost use mathlib.Core.Path.{_≡_};
+ghost use lib.ListN.{drop};
+ghost use lib.Seq as seq;
+ghost use Rattle.scripts.specs.Script.{left};
+ghost use Rattle.lines.specs.Line.{lines};
+ghost use Rattle.runs.specs.Code as spec;
+
+// How deep control and the terms below it are gone down to, at most: a control has at most 1,024 cells, and an
+// untouched term 64 levels, each of which a step may enter.
+const CONTROL_LEVELS: usize = 1025;
+
+const STEP_LEVELS: usize = 2048;
+
+// The number of the refusal where no derivation has the address.
+const NO_DERIVATION: u8 = 7;
+
+// What an accepted step shows.
+pub struct Shown {
+    pub event: Event,
+}
+
+// What an address comes to: a step, or the number of its refusal.
+pub enum Answer {
+    Accepted(Shown),
+    Refused(u8),
+}
+
+// What a line of a script comes to: a step, with the next line from `next` on; the number of the refusal; or nothing,
+// at the end of the script.
+pub enum Played {
+    Stepped { event: Event, next: usize },
+    Refused(u8),
+    End,
+}
+
+// Starts a run: control is the call of definition 00 at reference 0, and nothing is marked yet.
+pub fn start(nodes: &mut [u16; 65544], track: &mut [u16; 28672], counters: &mut [u16; 8])
+    ensures { λ _. ⌜ now (nodes .exit) ≡ spec.fresh-nodes ⌝ }
+    ensures { λ _. ⌜ now (track .exit) ≡ spec.fresh-track ⌝ }
+    ensures { λ _. ⌜ now (counters .exit) ≡ spec.fresh-counters ⌝ }
+{
+    *nodes = [0u16; 65544];
+    *track = [0u16; 28672];
+    *counters = [0u16, 1, 1, 0, 0, 0, 0, 0];
+}
+
+// Steps a run by the first `count` of the digits.
+pub fn step(
+    count: usize,
+    digits: &[u8; 1024],
+    plan: &[u16; 4096],
+    sets: &[u64; 1024],
+    nodes: &mut [u16; 65544],
+    track: &mut [u16; 28672],
+    counters: &mut [u16; 8],
+) -> Answer
+    ensures { λ r. ⌜ r ≡ spec.stepped (now (plan .entry)) (now (sets .entry)) count (now (digits .entry))
+        (now (nodes .entry)) (now (track .entry)) (now (counters .entry)) .answer ⌝ }
+    ensures { λ _. ⌜ now (nodes .exit) ≡ spec.stepped (now (plan .entry)) (now (sets .entry)) count
+        (now (digits .entry)) (now (nodes .entry)) (now (track .entry)) (now (counters .entry)) .nodes ⌝ }
+    ensures { λ _. ⌜ now (track .exit) ≡ spec.stepped (now (plan .entry)) (now (sets .entry)) count
+        (now (digits .entry)) (now (nodes .entry)) (now (track .entry)) (now (counters .entry)) .track ⌝ }
+    ensures { λ _. ⌜ now (counters .exit) ≡ spec.stepped (now (plan .entry)) (now (sets .entry)) count
+        (now (digits .entry)) (now (nodes .entry)) (now (track .entry)) (now (counters .entry)) .counters ⌝ }
+{
+    let weighed = weigh(count, digits, plan, sets, nodes, track, counters);
+    let Weighed::Derived(w) = weighed else {
+        return Answer::Refused(NO_DERIVATION);
+    };
+    if w.at != count {
+        return Answer::Refused(NO_DERIVATION);
+    }
+    let over = over_room(w, counters);
+    if over != 0 {
+        return Answer::Refused(over);
+    }
+    let taken = perform(count, digits, plan, nodes, track, counters);
+    recount(taken, counters);
+    let event = taken.event;
+    Answer::Accepted(Shown { event })
+}
+
+// Weighs the step that an address names.
+fn weigh(
+    count: usize,
+    digits: &[u8; 1024],
+    plan: &[u16; 4096],
+    sets: &[u64; 1024],
+    nodes: &[u16; 65544],
+    track: &[u16; 28672],
+    counters: &[u16; 8],
+) -> Weighed
+    ensures { λ r. ⌜ r ≡ spec.weight (now (plan .entry)) (now (sets .entry)) count (now (digits .entry))
+        (now (nodes .entry)) (now (track .entry)) (now (counters .entry)) ⌝ }
+{
+    let reference = counter(REFERENCE, counters);
+    if reference == 0 {
+        return start_weight();
+    }
+    let cells = counter(CELLS, counters);
+    let arcs = counter(ARCS, counters);
+    weigh_at(
+        reference,
+        0,
+        0,
+        0,
+        cells,
+        CONTROL_LEVELS,
+        count,
+        arcs,
+        digits,
+        plan,
+        sets,
+        nodes,
+        track,
+    )
+}
+
+// The start's call labels its node and draws once.
+fn start_weight() -> Weighed
+    ensures { λ r. ⌜ r ≡ spec.start-weight ⌝ }
+{
+    Weighed::Derived(Weight {
+        event: Event::Tau,
+        at: 0,
+        size: 1,
+        nodes: 1,
+        arcs: 1,
+        meetings: 0,
+        met: 0,
+    })
+}
+
+// Takes the step that an address names.
+fn perform(
+    count: usize,
+    digits: &[u8; 1024],
+    plan: &[u16; 4096],
+    nodes: &mut [u16; 65544],
+    track: &mut [u16; 28672],
+    counters: &[u16; 8],
+) -> Taken
+    ensures { λ r. ⌜ r ≡ spec.performed (now (plan .entry)) count (now (digits .entry))
+        (now (nodes .entry)) (now (track .entry)) (now (counters .entry)) .taken ⌝ }
+    ensures { λ _. ⌜ now (nodes .exit) ≡ spec.performed (now (plan .entry)) count (now (digits .entry))
+        (now (nodes .entry)) (now (track .entry)) (now (counters .entry)) .nodes ⌝ }
+    ensures { λ _. ⌜ now (track .exit) ≡ spec.performed (now (plan .entry)) count (now (digits .entry))
+        (now (nodes .entry)) (now (track .entry)) (now (counters .entry)) .track ⌝ }
+{
+    let reference = counter(REFERENCE, counters);
+    let tally = tally_of(counters);
+    if reference == 0 {
+        return call_start(tally, nodes, track);
+    }
+    let cells = counter(CELLS, counters);
+    take(
+        reference,
+        0,
+        0,
+        cells,
+        STEP_LEVELS,
+        count,
+        tally,
+        digits,
+        plan,
+        nodes,
+        track,
+    )
+}
+
+// Plays the line of a script that begins at `at`: its digits go to the front of `digits`, and the run takes its step.
+pub fn play(
+    text: &[u8],
+    at: usize,
+    digits: &mut [u8; 1024],
+    plan: &[u16; 4096],
+    sets: &[u64; 1024],
+    nodes: &mut [u16; 65544],
+    track: &mut [u16; 28672],
+    counters: &mut [u16; 8],
+) -> Played
+    ensures { λ r. ⌜ r ≡ spec.played (now (plan .entry)) (now (sets .entry)) (now (nodes .entry))
+        (now (track .entry)) (now (counters .entry)) at (lines (drop at (now (text .entry)))) (now (digits .entry)) .played ⌝ }
+    ensures { λ _. ⌜ now (nodes .exit) ≡ spec.played (now (plan .entry)) (now (sets .entry)) (now (nodes .entry))
+        (now (track .entry)) (now (counters .entry)) at (lines (drop at (now (text .entry)))) (now (digits .entry)) .nodes ⌝ }
+    ensures { λ _. ⌜ now (track .exit) ≡ spec.played (now (plan .entry)) (now (sets .entry)) (now (nodes .entry))
+        (now (track .entry)) (now (counters .entry)) at (lines (drop at (now (text .entry)))) (now (digits .entry)) .track ⌝ }
+    ensures { λ _. ⌜ now (counters .exit) ≡ spec.played (now (plan .entry)) (now (sets .entry)) (now (nodes .entry))
+        (now (track .entry)) (now (counters .entry)) at (lines (drop at (now (text .entry)))) (now (digits .entry)) .counters ⌝ }
+    ensures { λ _. ⌜ now (digits .exit)
+        ≡ seq.sets (now (digits .entry)) 0 (left (lines (drop at (now (text .entry))))) ⌝ }
+{
+    let line = next_step(text, at, digits);
+    let Step::Address { count, next } = line else {
+        return no_step(line);
+    };
+    let answer = step(count, digits, plan, sets, nodes, track, counters);
+    match answer {
+        Answer::Refused(number) => Played::Refused(number),
+        Answer::Accepted(shown) => {
+            let event = shown.event;
+            Played::Stepped { event, next }
+        }
+    }
+}
+
+// What a line that asks for no step comes to.
+fn no_step(line: Step) -> Played
+    ensures { λ r. ⌜ r ≡ spec.without-step line ⌝ }
+{
+    match line {
+        Step::Address { count: _, next: _ } => Played::End,
+        Step::Refused(number) => Played::Refused(number),
+        Step::End => Played::End,
+    }
+}
