@@ -1,10 +1,9 @@
 // The judging program: reads a table and then a script from standard input, and tells in words what the table
 // holds and where each of its literals stands, and what each line of the script asks for, or the refusal that
 // ends the work. All that it tells comes from the proved libraries; here it is only read and written.
-mod input;
 mod words;
 
-use input::table_end;
+use inputs::table_end;
 use tables::Checked;
 use tables::check;
 use words::say_refusal;

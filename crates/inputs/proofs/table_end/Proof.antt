@@ -1,10 +1,10 @@
--- `judge::input::table_end` meets its contract: each line ends behind its place and inside the text, so the
+-- `inputs::table_end` meets its contract: each line ends behind its place and inside the text, so the
 -- loop stays inside and what is left of the text falls. Assumes nothing.
 use borrow.Author.Needs.{needs}
 use Prim.Native.Nat.{_≤_, _-_}
 use lib.ListN.{length}
-use Rattle.judge.proofs.input.table_end.Statement.{statement}
-use Rattle.judge.proofs.input.table_end.Tie as tie
+use Rattle.inputs.proofs.table_end.Statement.{statement}
+use Rattle.inputs.proofs.table_end.Tie as tie
 
 abbrev Inv-loop : tie.InvT-loop
 Inv-loop text at₀ at = at ≤ length text

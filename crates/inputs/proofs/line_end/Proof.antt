@@ -1,10 +1,10 @@
--- `judge::input::line_end` meets its contract. The loop's invariant keeps the place inside the text, not in
+-- `inputs::line_end` meets its contract. The loop's invariant keeps the place inside the text, not in
 -- front of the line; the measure is what is left of the text. Assumes nothing.
 use borrow.Author.Needs.{needs}
 use Prim.Native.Nat.{_≤_, _-_}
 use lib.ListN.{length}
-use Rattle.judge.proofs.input.line_end.Statement.{statement}
-use Rattle.judge.proofs.input.line_end.Tie as tie
+use Rattle.inputs.proofs.line_end.Statement.{statement}
+use Rattle.inputs.proofs.line_end.Tie as tie
 
 abbrev Inv-loop : tie.InvT-loop
 Inv-loop text at i₀ i = (at ≤ i) × (i ≤ length text)
