@@ -17,14 +17,14 @@ use Rattle.report.specs.Track as Track
 use Rattle.control.specs.Words.{track-words, track-word}
 use Rattle.weighing.specs.Sums.{capped}
 use Rattle.weighing.specs.Looking.{leads}
 use Rattle.stepping.specs.declared.Tally.{Tally}
 use Rattle.stepping.specs.Marks.{one-arc, one-meeting, with-arc, with-meeting, event-node, Kept, kept}
 use Rattle.stepping.specs.Marks.{met-each, met-all, joined}
 use Rattle.stepping.specs.Views.{pairs, arcs-of, meetings-of, event-nodes}
-use Rattle.stepping.proofs.TrackLaws.{Pairing, arc, meeting, first-word, pair-room, with-pair}
-use Rattle.stepping.proofs.TrackLaws.{last-pair, Grown, grown-none, grown-both, pair-grown}
-use Rattle.stepping.proofs.TrackLaws.{pair-within, pairs-same, arcs-kept, meetings-kept, nodes-kept}
-use Rattle.stepping.proofs.TrackLaws.{arc-length, meeting-length, meeting-keeps-nodes}
+use Rattle.taking.proofs.TrackLaws.{Pairing, arc, meeting, first-word, pair-room, with-pair}
+use Rattle.taking.proofs.TrackLaws.{last-pair, Grown, grown-none, grown-both, pair-grown}
+use Rattle.taking.proofs.TrackLaws.{pair-within, pairs-same, arcs-kept, meetings-kept, nodes-kept}
+use Rattle.taking.proofs.TrackLaws.{arc-length, meeting-length, meeting-keeps-nodes}
 
 -- a count that is not past the last is what it is
 pub capped-below : (n : ℕ) → n ≤ 65535 → capped n ≡ n

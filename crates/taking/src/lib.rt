@@ -1,0 +1,1 @@
+// That the step which the words take is the step of the rules: laws alone.
