@@ -1,5 +1,4 @@
 // The counters of a run, kept beside its control, and the rooms.
-use control::Event;
 use stepping::Taken;
 use stepping::Tally;
 use weighing::Weight;
