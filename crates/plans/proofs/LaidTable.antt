@@ -51,7 +51,7 @@ module _ (text : List ℕ) (s : Sofar) (q : judged text ≡ accepted s) where
       rw (table .roots-are) (List·getD-append (s .roots) _ 0 k
       (omega (arith, ap length (table .roots-are), listed (definitions-of s) 0 k t e .1)))
 
-  root-is : (k : ℕ) (t : Term) → getElem? (definitions-of s) k ≡ some t
+  pub root-is : (k : ℕ) (t : Term) → getElem? (definitions-of s) k ≡ some t
       → look definition-room (roots s) k ≡ getD (starts 0 (definitions-of s)) k 0
   root-is k t e =
       let table = checked-trees text s q in

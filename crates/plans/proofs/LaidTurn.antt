@@ -33,7 +33,7 @@ module _ (k t v : ℕ) (w : List ℕ) where
   put-same room long =
       ap (λ (l : List ℕ). at l (4 * t + k)) (sym (put-in k t v w room)) ∙ getD-set-same w (4 * t + k) v 0 long
 
-  put-other : (p : ℕ) → (p ≡ 4 * t + k → ⊥) → at (put k t v w) p ≡ at w p
+  pub put-other : (p : ℕ) → (p ≡ 4 * t + k → ⊥) → at (put k t v w) p ≡ at w p
   unfolding put
   put-other p away = go (ltb t term-room)
     where

@@ -8,15 +8,16 @@ use mathlib.Core.Option.{Option, none, some}
 use lib.ListN.{length, getElem?}
 use lib.Dec.{eqb}
 use Rattle.lines.specs.Line.{choose}
-use Rattle.terms.specs.Term.{Term}
+use Rattle.frames.specs.TableFrame.{term-room}
+use Rattle.terms.specs.Term.{Term, Within}
 use Rattle.report.specs.Process.{Event, τ, ✓, visible, Digit, one, two, three, four, Address}
 use Rattle.report.specs.Process as Process
 use Rattle.report.specs.Run.{State, start, Reached}
 use Rattle.report.specs.Run as Run
-use Rattle.plans.specs.Plan.{Layout}
+use Rattle.plans.specs.Plan.{Layout, around}
 use Rattle.plans.specs.Plan as Plan
 use Rattle.control.specs.Words.{node, track-words}
-use Rattle.control.specs.Control.{state, resting}
+use Rattle.control.specs.Control.{label, state, first, second-side, resting}
 use Rattle.control.specs.declared.Event.the-variants.{Tau, Tick, Visible}
 use Rattle.control.specs.declared.Event as Shown
 use Rattle.weighing.specs.Looking.{digit-at}
@@ -26,12 +27,16 @@ use Rattle.runs.specs.Counting.{reference, fresh, cells, nodes, arcs, me
 use Rattle.runs.specs.declared.Answer.{Answer}
 use Rattle.runs.specs.declared.Answer.the-variants.{Accepted, Refused}
 
--- a table whose definitions a plan and its sets hold: definition 00 begins it, and every definition that it calls is there
+-- a table whose definitions a plan and its sets hold: definition 00 begins it, every definition that it calls is there, and
+-- the sequences around its terms are terms
 pub record Table (l : Layout) (p x : List ℕ) (ts : List Term) : Type 0 where
   pub held : Plan.Holds l p x ts
   pub low : Low l
   pub first : l .root 0 ≡ 0
   pub some-first : getElem? ts 0 ≡ none → ⊥
+  pub numbered : (t : ℕ) → around p t ≤ term-room
+  pub events : ℕ
+  pub within : (n : ℕ) (t : Term) → getElem? ts n ≡ some t → Within (length ts) events t
 
 -- the words tell a state
 pub record Tells (l : Layout) (p x w g c : List ℕ) (s : State) : Type 0 where
@@ -47,12 +52,13 @@ pub record Tells (l : Layout) (p x w g c : List ℕ) (s : State) : Type 0 where
   pub arcs-told : arcs-of g (arcs c) ≡ s .arcs
   pub meetings-told : meetings-of g (meetings c) ≡ s .meetings
 
--- words that are whole, and clean behind what is drawn
+-- words that are whole, and clean behind what is drawn; reference 0 rests, and a reference without a label has no sides
 pub record Whole (w g c : List ℕ) : Type 0 where
   pub whole-nodes : length w ≡ 65544
   pub whole-track : length g ≡ track-words
   pub clean : (j i : ℕ) → fresh c ≤ j → i < 8 → node i w j ≡ 0
   pub first-rests : state w 0 ≡ resting
+  pub sideless : (j : ℕ) → label w j ≡ 0 → (first w j ≡ 0) × (second-side w j ≡ 0)
 
 -- the words hold a run
 pub record Holds (l : Layout) (p x : List ℕ) (ts : List Term) (w g c : List ℕ) (s : State) : Type 0 where
@@ -100,3 +106,14 @@ behind s (Run.refused n) = s
 unfoldable pub answered : List Term → State → Option Address → Run.Answer
 answered ts s none = Run.refused 7
 answered ts s (some a) = Run.answer ts s a
+
+-- what a step owes a run: its answer is document 01's, and the words after it hold the state behind it
+abbrev pub Keeps : List ℕ → List ℕ → ℕ → List ℕ → List ℕ → List ℕ → List ℕ → Answer → List ℕ → List ℕ → List ℕ → Type 0
+Keeps p x count ds w g c r w′ g′ c′ =
+    (l : Layout) (ts : List Term) (s : State) → Table l p x ts → Holds l p x ts w g c s
+    → (r ≡ told (answered ts s (addressed ds count)))
+    × Holds l p x ts w′ g′ c′ (behind s (answered ts s (addressed ds count)))
+
+-- what a start owes: the words hold a run of any table, at its start
+abbrev pub Begins : List ℕ → List ℕ → List ℕ → Type 0
+Begins w g c = (l : Layout) (p x : List ℕ) (ts : List Term) → Holds l p x ts w g c start

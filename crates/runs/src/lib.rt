@@ -24,6 +24,7 @@ ghost use lib.Seq as seq;
 ghost use Rattle.scripts.specs.Script.{left};
 ghost use Rattle.lines.specs.Line.{lines};
 ghost use Rattle.runs.specs.Code as spec;
+ghost use Rattle.runs.specs.Held.{Keeps, Begins};
 
 // How deep control and the terms below it are gone down to, at most: a control has at most 1,024 cells, and an
 // untouched term 64 levels, each of which a step may enter.
@@ -58,13 +59,15 @@ pub fn start(nodes: &mut [u16; 65544], track: &mut [u16; 28672], counters: &mut 
     ensures { λ _. ⌜ now (nodes .exit) ≡ spec.fresh-nodes ⌝ }
     ensures { λ _. ⌜ now (track .exit) ≡ spec.fresh-track ⌝ }
     ensures { λ _. ⌜ now (counters .exit) ≡ spec.fresh-counters ⌝ }
+    ensures { λ _. ⌜ Begins (now (nodes .exit)) (now (track .exit)) (now (counters .exit)) ⌝ }
 {
     *nodes = [0u16; 65544];
     *track = [0u16; 28672];
     *counters = [0u16, 1, 1, 0, 0, 0, 0, 0];
 }
 
-// Steps a run by the first `count` of the digits.
+// Steps a run by the first `count` of the digits. Where the words hold a run of a table's plan, the answer is document 01's,
+// and they hold the run behind it.
 pub fn step(
     count: usize,
     digits: &[u8; 1024],
@@ -82,6 +85,9 @@ pub fn step(
         (now (digits .entry)) (now (nodes .entry)) (now (track .entry)) (now (counters .entry)) .track ⌝ }
     ensures { λ _. ⌜ now (counters .exit) ≡ spec.stepped (now (plan .entry)) (now (sets .entry)) count
         (now (digits .entry)) (now (nodes .entry)) (now (track .entry)) (now (counters .entry)) .counters ⌝ }
+    ensures { λ r. ⌜ Keeps (now (plan .entry)) (now (sets .entry)) count (now (digits .entry))
+        (now (nodes .entry)) (now (track .entry)) (now (counters .entry))
+        r (now (nodes .exit)) (now (track .exit)) (now (counters .exit)) ⌝ }
 {
     let weighed = weigh(count, digits, plan, sets, nodes, track, counters);
     let Weighed::Derived(w) = weighed else {

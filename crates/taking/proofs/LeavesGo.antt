@@ -20,8 +20,8 @@ use Rattle.report.specs.Track.{pair, Outcome, labelled, prefixed}
 use Rattle.report.specs.Step.{Stepped, stepped, step}
 use Rattle.report.proofs.Marked.{one-same, past-drawn}
 use Rattle.report.proofs.Marked as Marked
-use Rattle.report.proofs.Ranged.{Calls}
 use Rattle.report.proofs.Holding.{held}
+use Rattle.report.proofs.Ranged.{Calls}
 use Rattle.plans.specs.Plan.{Layout, second, around}
 use Rattle.plans.specs.Plan as Plan
 use Rattle.control.specs.Words.{reference-room, node}

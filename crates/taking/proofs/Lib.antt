@@ -1,9 +1,10 @@
--- That the step which the words take is the step of the rules. What the words tell of a track and of a reference:
--- `TrackLaws`, `TrackLoops`, `NodeViews`. What a part of a step writes: `Writing`, and `Parts` of the small writes. What a step
--- owes the rules: `Going`. `Settling` of a ✓ inside sequences, `LeavesGo` of the steps that look no further down,
+-- That the step which the words take is the step of the rules: `takes`, in `Taking`. What the words tell of a track and of a
+-- reference: `TrackLaws`, `TrackLoops`, `NodeViews`. What a part of a step writes: `Writing`, and `Parts` of the small writes. What a
+-- step owes the rules: `Going`. `Settling` of a ✓ inside sequences, `LeavesGo` of the steps that look no further down,
 -- `Sequences` of entering a sequence. Of choices and parallels: `Drawing` of what a derivation draws, `Opening`, `Entering` and
--- `Starting` of their sides, `OneSide` and `Dropping` of one side's step, `Labelling` of their node, `BothSides` and `Joining` of
--- a joint step, `Ending` of two ended sides, `Closing` of all these. `Taking` begins the induction over a whole step.
+-- `Starting` of their sides, `OneSide` and `Dropping` of one side's step, `BothSides` and `Joining` of a joint step, `Ending` of two
+-- ended sides, `SideParts` and `SplitStep` of the rules' account of them, `Sideless` of references without a label, `Splitting`,
+-- `SplitBoth` and `SplitTaken` of all these by a digit. `Nesting` of sequences around a part.
 pub mod TrackLaws
 pub mod TrackLoops
 pub mod NodeViews
@@ -12,16 +13,22 @@ pub mod Going
 pub mod Parts
 pub mod Settling
 pub mod LeavesGo
-pub mod Sequences
 pub mod Drawing
 pub mod Opening
 pub mod Entering
 pub mod Starting
 pub mod OneSide
 pub mod Dropping
-pub mod Labelling
 pub mod BothSides
 pub mod Joining
 pub mod Ending
-pub mod Closing
+pub mod SideParts
+pub mod Sideless
+pub mod SplitStep
+pub mod Sequences
+pub mod Nesting
+pub mod Depths
+pub mod Splitting
+pub mod SplitBoth
+pub mod SplitTaken
 pub mod Taking

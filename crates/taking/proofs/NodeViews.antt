@@ -1,23 +1,23 @@
--- What each word of each reference is after what a step writes: the words that it puts are the values, every other
--- word is as before, and nothing that a labelled reference keeps changes. Each is some puts in a row. And what marks
--- tell: a literal's own mark its place, an event's the place of the event below it. Assumes nothing.
+-- What each word of each reference is after what a step writes: the words that it puts are the values, every
+-- other word is as before, and nothing that a labelled reference keeps changes. Each is some puts in a row. And
+-- what marks tell: a literal's own mark its place, and an event's mark the place below it. Assumes nothing.
 use Prim.Native.Nat.{ℕ, _+_, _-_, _/_, _%_, _≤_, _<_}
-use mathlib.Core.Path.{_≡_, refl, subst, ap, sym, _∙_}
+use mathlib.Core.Path.{_≡_, refl, ap, sym, _∙_}
 use mathlib.Core.Bool.{Bool, true, false}
 use mathlib.Core.List.{List}
-use mathlib.Core.Option.{Option, none, some}
+use mathlib.Core.Option.{none, some}
 use native.Mathlib.Omega.{arith}
 use lib.Dec.{eqb, ltb}
 use borrow.Author.Tests.{eqb-true, eqb-false, eq-eqb, ne-eqb, le-ltb, ltb-false}
 use Rattle.lines.specs.Line.{choose}
-use Rattle.places.specs.Place.{Place, left-path}
 use Rattle.report.specs.Process.{below}
 use Rattle.plans.specs.Plan.{Layout}
 use Rattle.control.specs.Words.{reference-room, node, put}
 use Rattle.control.specs.Control.{label, state, term, frame, first-cells, second-cells, resting}
 use Rattle.control.specs.Control as Control
 use Rattle.control.proofs.NodeLaws.{Whole, put-whole, put-same, put-other}
-use Rattle.control.proofs.Framed.{Same, Lasting, lasting-then, words-lasting, marked-not-bare}
+use Rattle.control.proofs.Framed.{Same, Lasting, words-lasting, marked-not-bare, put-elsewhere}
+use Rattle.control.proofs.Framed.{put-lasting}
 use Rattle.weighing.specs.Sums.{capped}
 use Rattle.stepping.specs.Marks.{labelled, standing}
 use Rattle.stepping.specs.Leaves.{own-mark, event-mark}
@@ -26,7 +26,8 @@ use Rattle.stepping.specs.Views.{place-told, marked}
 use Rattle.stepping.specs.declared.Tally.{Tally}
 
 -- a word of the reference at which another is put
-put-beside : (i : ℕ) (w : List ℕ) (n v j : ℕ) → i < 8 → j < 8 → (i ≡ j → ⊥) → node j (put i w n v) n ≡ node j w n
+put-beside : (i : ℕ) (w : List ℕ) (n v j : ℕ) → i < 8 → j < 8 → (i ≡ j → ⊥)
+    → node j (put i w n v) n ≡ node j w n
 put-beside i w n v j h k other = put-other i w n v j n (λ e _. other e) h k
 
 -- what is told of a reference at which something stands
@@ -87,11 +88,12 @@ module _ (n mark : ℕ) (w : List ℕ) where
   labelled-elsewhere i j h other = put-other 0 w n mark i j (λ e q. other (sym q) (sym e)) (omega arith) h
 
   pub labelled-same : (j : ℕ) → (j ≡ n → ⊥) → Same w (labelled n mark w) j
-  labelled-same j other i h = labelled-elsewhere i j h (λ e _. other e)
+  unfolding labelled
+  labelled-same = put-elsewhere 0 w n mark (omega arith)
 
   pub labelled-lasting : label w n ≡ 0 → Lasting w (labelled n mark w)
-  labelled-lasting bare = words-lasting w _
-      (λ i j h k. labelled-elsewhere i j (omega arith) (λ e _. marked-not-bare w j n bare k e))
+  unfolding labelled
+  labelled-lasting = put-lasting 0 w n mark (omega arith)
 
 -- counts that do not pass 65,535
 capped-most : (n : ℕ) → capped n < 65536
@@ -186,7 +188,8 @@ module _ (n t : ℕ) (w : List ℕ) where
   pub entered-whole : Whole w → Whole (entered n t w)
   unfolding entered
   entered-whole h =
-      labelled-whole n (own-mark t) _ (put-whole 7 _ n 1 (put-whole 6 _ n 1 (put-whole 1 w n Control.entered h)))
+      labelled-whole n (own-mark t) _
+      (put-whole 7 _ n 1 (put-whole 6 _ n 1 (put-whole 1 w n Control.entered h)))
 
   pub entered-there : n < reference-room → Whole w → Begun (entered n t w) n t
   unfolding entered
@@ -236,7 +239,8 @@ module _ (n side m size : ℕ) (w : List ℕ) (is-side : (1 ≤ side) × (side �
   put-side-whole h = put-whole (5 + side) _ n size (put-whole (3 + side) w n m h)
 
   pub put-side-there : n < reference-room → Whole w → m < 65536 → size < 65536
-      → (node (3 + side) (put-side n side m size w) n ≡ m) × (node (5 + side) (put-side n side m size w) n ≡ size)
+      → (node (3 + side) (put-side n side m size w) n ≡ m)
+      × (node (5 + side) (put-side n side m size w) n ≡ size)
   unfolding put-side
   put-side-there h l a b =
       let w₁ = put (3 + side) w n m in (
@@ -287,12 +291,14 @@ module _ (n side t f : ℕ) (k : Tally) (w : List ℕ) where
         let m : ℕ = k .fresh in
         let w₁ = standing m resting t f w in
         let s = standing-there m resting t f w h′ l (omega arith) a b in
+        let kept : (i : ℕ) → i < 4 → node i (put (3 + side) w₁ n m) m ≡ node i w₁ m =
+        λ i q. put-other (3 + side) w₁ n m i m (λ e _. omega arith) (omega arith) (omega arith) in
         rw (side-nodes-begun begun) (
           put-same (3 + side) w₁ n m h (omega arith) (standing-whole m resting t f w l) (omega arith),
           record {
-            state-is = put-other (3 + side) w₁ n m 1 m (λ e _. omega arith) (omega arith) (omega arith) ∙ s .state-is;
-            term-is = put-other (3 + side) w₁ n m 2 m (λ e _. omega arith) (omega arith) (omega arith) ∙ s .term-is;
-            frame-is = put-other (3 + side) w₁ n m 3 m (λ e _. omega arith) (omega arith) (omega arith) ∙ s .frame-is;
+            state-is = kept 1 (omega arith) ∙ s .state-is;
+            term-is = kept 2 (omega arith) ∙ s .term-is;
+            frame-is = kept 3 (omega arith) ∙ s .frame-is;
           },
         )
 
@@ -302,7 +308,8 @@ module _ (n side t f : ℕ) (k : Tally) (w : List ℕ) where
     side-nodes-elsewhere i j h other other′ = go (eqb (node (3 + side) w n) 0)
       where
         go : (b : Bool)
-            → node i (choose b (put (3 + side) (standing (k .fresh) resting t f w) n (k .fresh)) w) j ≡ node i w j
+            → node i (choose b (put (3 + side) (standing (k .fresh) resting t f w) n (k .fresh)) w) j
+            ≡ node i w j
         go true =
             put-other (3 + side) _ n (k .fresh) i j (λ e q. other′ (sym q) (sym e)) (omega arith) h
             ∙ standing-elsewhere (k .fresh) resting t f w i j h other

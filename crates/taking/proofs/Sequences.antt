@@ -1,28 +1,24 @@
--- A sequence that no step has touched is entered by going on at its left: the term there is one further, and the
--- sequence is one more around it. Nothing is added to the track. Assumes nothing.
-use Prim.Native.Nat.{ℕ, suc, _+_, _*_, _≤_, _<_}
-use mathlib.Core.Path.{_≡_, refl, sym, ap, subst, _∙_}
-use mathlib.Core.Bool.{true, false}
-use mathlib.Core.List.{List, [], _∷_, _++_, append-nil}
+-- A sequence that no step has touched is entered by going on at its left: the term there is one further, and
+-- the sequence is one more around it. Nothing is added to the track. Assumes nothing.
+use Prim.Native.Nat.{ℕ, suc, _≤_, _<_}
+use mathlib.Core.Path.{_≡_, refl, sym, subst, _∙_}
+use mathlib.Core.List.{List, _∷_, append-nil}
 use native.Mathlib.Omega.{arith}
 use native.Mathlib.Nat.{add-zero}
-use lib.ListN.{length}
 use Rattle.terms.specs.Term.{Term, external, parallel, binary}
 use Rattle.terms.specs.Term as Term
 use Rattle.places.specs.Place.{Place}
-use Rattle.report.specs.Process.{Process, below, joined, untouched}
-use Rattle.report.proofs.Marked.{Unentered, Fit, one, past, unentered-fit, untouched-unentered}
-use Rattle.report.proofs.Holding.{held, unentered-held}
+use Rattle.report.specs.Process.{joined, untouched}
+use Rattle.report.proofs.Marked.{past, unentered-fit, untouched-unentered}
+use Rattle.report.proofs.Holding.{held}
 use Rattle.plans.specs.Plan.{Layout, second, around, first-around, second-around, Planned}
-use Rattle.control.specs.Words.{node, put, reference-room}
-use Rattle.control.specs.Control.{label, term, frame, Untouched, Stands, Rests, Follows, Holds}
+use Rattle.control.specs.Words.{put, reference-room}
+use Rattle.control.specs.Control.{label, term, frame, Rests, Follows, Holds}
 use Rattle.control.proofs.NodeLaws.{Whole, put-same, put-other, put-whole, put-length}
-use Rattle.control.proofs.Framed.{Same, Lasting, words-lasting, around-lasting, put-lasting, marked-not-bare}
+use Rattle.control.proofs.Framed.{Same, around-lasting, put-lasting}
 use Rattle.control.proofs.Chains.{around-inside}
-use Rattle.weighing.specs.Sums.{capped}
 use Rattle.stepping.specs.Views.{marked, lookup}
 use Rattle.taking.proofs.NodeViews.{marked-same}
-use Rattle.taking.proofs.TrackLoops.{capped-below}
 use Rattle.taking.proofs.Writing.{Words, Writes, nothing, first-none}
 use Rattle.taking.proofs.Going.{Sound, Ready}
 
@@ -49,41 +45,42 @@ module _ (l : Layout) (p x w : List ℕ) where
   rests-held n b ks v (binary (parallel y) t u) r = r
 
 -- only the term of reference n is another
-module _ (l : Layout) (n t : ℕ) (u : Words) (bare : label (u .nodes) n ≡ 0) (drawn : n < u .tally .fresh) where
-  elsewhere : (j : ℕ) → (j ≡ n → ⊥) → Same (u .nodes) (put 2 (u .nodes) n t) j
-  elsewhere j h i k = put-other 2 (u .nodes) n t i j (λ e f. h (sym f)) (omega arith) k
+module _ (l : Layout) (n t : ℕ) (u : Words) (bare : label (u .nodes) n ≡ 0) (drawn : n < u .tally .fresh)
+  where
+    elsewhere : (j : ℕ) → (j ≡ n → ⊥) → Same (u .nodes) (put 2 (u .nodes) n t) j
+    elsewhere j h i k = put-other 2 (u .nodes) n t i j (λ e f. h (sym f)) (omega arith) k
 
-  label-kept : (j : ℕ) → label (put 2 (u .nodes) n t) j ≡ label (u .nodes) j
-  label-kept j = put-other 2 (u .nodes) n t 0 j (λ e f. omega arith) (omega arith) (omega arith)
+    label-kept : (j : ℕ) → label (put 2 (u .nodes) n t) j ≡ label (u .nodes) j
+    label-kept j = put-other 2 (u .nodes) n t 0 j (λ e f. omega arith) (omega arith) (omega arith)
 
-  pub onward-writes : (own : ℕ → ℕ) → (own n ≡ 0 → ⊥) → Writes l own u (onward n t u) nothing
-  unfolding lookup
-  onward-writes own mine = record {
-    more = omega arith;
-    nodes-counted = omega arith;
-    arcs-counted = omega arith;
-    meetings-counted = omega arith;
-    met-counted = omega arith;
-    labels-are = λ j.
-        marked-same l (u .nodes) (put 2 (u .nodes) n t) j (label-kept j)
-        ∙ sym (first-none (marked l (u .nodes) j));
-    lasting = put-lasting 2 (u .nodes) n t (omega arith) bare;
-    apart = λ j h e. elsewhere j (λ f. mine (subst (λ m. own m ≡ 0) f e));
-    later = λ j h. elsewhere j (λ f. omega (arith, h, f, drawn));
-    arcs-are = sym (append-nil _);
-    meetings-are = sym (append-nil _);
-    met-are = λ i c h. rw (add-zero c) (sym (append-nil _));
-    long-nodes = put-length 2 (u .nodes) n t;
-    long-track = refl;
-  }
+    pub onward-writes : (own : ℕ → ℕ) → (own n ≡ 0 → ⊥) → Writes l own u (onward n t u) nothing
+    unfolding lookup
+    onward-writes own mine = record {
+      more = omega arith;
+      nodes-counted = omega arith;
+      arcs-counted = omega arith;
+      meetings-counted = omega arith;
+      met-counted = omega arith;
+      labels-are = λ j.
+          marked-same l (u .nodes) (put 2 (u .nodes) n t) j (label-kept j)
+          ∙ sym (first-none (marked l (u .nodes) j));
+      lasting = put-lasting 2 (u .nodes) n t (omega arith) bare;
+      apart = λ j h e. elsewhere j (λ f. mine (subst (λ m. own m ≡ 0) f e));
+      later = λ j h. elsewhere j (λ f. omega (arith, h, f, drawn));
+      arcs-are = sym (append-nil _);
+      meetings-are = sym (append-nil _);
+      met-are = λ i c h. rw (add-zero c) (sym (append-nil _));
+      long-nodes = put-length 2 (u .nodes) n t;
+      long-track = refl;
+    }
 
-  pub onward-sound : Sound u → Sound (onward n t u)
-  onward-sound s = record {
-    whole-nodes = put-whole 2 (u .nodes) n t (s .whole-nodes);
-    whole-track = s .whole-track;
-    clean = λ j i h k. elsewhere j (λ f. omega (arith, h, f, drawn)) i k ∙ s .clean j i h k;
-    up = s .up;
-  }
+    pub onward-sound : Sound u → Sound (onward n t u)
+    onward-sound s = record {
+      whole-nodes = put-whole 2 (u .nodes) n t (s .whole-nodes);
+      whole-track = s .whole-track;
+      clean = λ j i h k. elsewhere j (λ f. omega (arith, h, f, drawn)) i k ∙ s .clean j i h k;
+      up = s .up;
+    }
 
 module _ (l : Layout) (p x : List ℕ) where
   -- a sequence of number i, at reference n
@@ -93,7 +90,8 @@ module _ (l : Layout) (p x : List ℕ) where
       (whole : Whole (u .nodes))
       (planned : Planned l p x i (around p i) (binary Term.sequence t s)) where
     there : term (put 2 (u .nodes) n (suc i)) n ≡ suc i
-    there = put-same 2 (u .nodes) n (suc i) (omega (arith, drawn, fresh-fits)) (omega arith) whole (omega (arith, low))
+    there = put-same 2 (u .nodes) n (suc i) (omega (arith, drawn, fresh-fits)) (omega arith) whole
+        (omega (arith, low))
 
     frame-kept : frame (put 2 (u .nodes) n (suc i)) n ≡ frame (u .nodes) n
     frame-kept = put-other 2 (u .nodes) n (suc i) 3 n (λ e f. omega arith) (omega arith) (omega arith)
@@ -110,9 +108,11 @@ module _ (l : Layout) (p x : List ℕ) where
             within = r .stands .within;
             framed = rw frame-kept (r .stands .framed);
             chain = rw (there, frame-kept)
-                (around-inside p w (suc i) (frame (u .nodes) n) b i ks (planned-around l p x (suc i) (suc i) t (planned .5)) chain);
+                (around-inside p w (suc i) (frame (u .nodes) n) b i ks
+                (planned-around l p x (suc i) (suc i) t (planned .5)) chain);
           };
-          rests = put-other 2 (u .nodes) n (suc i) 1 n (λ e f. omega arith) (omega arith) (omega arith) ∙ r .rests;
+          rests = put-other 2 (u .nodes) n (suc i) 1 n (λ e f. omega arith) (omega arith) (omega arith)
+              ∙ r .rests;
           bare = label-kept l n (suc i) u (r .bare) drawn n ∙ r .bare;
           untouched-there = record {
             tree = t;
@@ -122,14 +122,16 @@ module _ (l : Layout) (p x : List ℕ) where
         }
 
     -- what follows it, with its place
-    pub sequence-follows : Follows l p x (put 2 (u .nodes) n (suc i)) i (l .place i) (untouched (l .place (second p i)) s)
+    pub sequence-follows : Follows l p x (put 2 (u .nodes) n (suc i)) i (l .place i)
+        (untouched (l .place (second p i)) s)
     unfolding second-around
     sequence-follows = record {
       place-is = refl;
       right = record { tree = s; is = refl; planned = planned .6 };
     }
 
-    pub left-ready : (count : ℕ) → Sound u → ((j : ℕ) → held j n (untouched (l .place i) (binary Term.sequence t s)) ≤ past j (u .tally .fresh))
+    pub left-ready : (count : ℕ) → Sound u → ((j : ℕ) → held j n
+        (untouched (l .place i) (binary Term.sequence t s)) ≤ past j (u .tally .fresh))
         → Ready l p x count n b (untouched (l .place (suc i)) t) (i ∷ ks) (onward n (suc i) u)
     unfolding held untouched joined
     left-ready count sound once = record {

@@ -1,228 +1,332 @@
--- The step that the words take is the step of the rules, by induction over how deep it is gone: a sequence around a part
--- is one more that waits for its event; an untouched sequence goes on at its left; an untouched choice or parallel is
--- opened, and goes on as one that was entered before. Assumes nothing.
-use Prim.Native.Nat.{ℕ, zero, suc, _+_, _*_, _≤_, _<_, max}
+-- The step that the words take is the step of the rules, by induction over how deep it may be gone: what
+-- looks no further down steps at once; an untouched sequence goes on at its left; an untouched choice or
+-- parallel is opened, and goes on as one that was entered before, with its label in front of what the step
+-- adds; an entered one goes by the digit that it reads. Ω and ⊥ have no step. Assumes nothing.
+use Prim.Native.Nat.{ℕ, zero, suc, _+_, _≤_, max}
 use mathlib.Core.Path.{_≡_, refl, sym, ap, subst, _∙_}
-use mathlib.Core.Bool.{Bool, true, false}
-use mathlib.Core.List.{List, [], _∷_, _++_}
+use mathlib.Core.Bool.{true, false}
+use mathlib.Core.List.{List}
 use mathlib.Core.Option.{Option, none, some}
 use native.Mathlib.Omega.{arith}
-use native.Mathlib.Numerals.{add-one}
 use lib.ListN.{length}
-use lib.Dec.{ltb}
-use borrow.Author.Tests.{ltb-true}
-use Rattle.terms.specs.Term.{Term}
-use Rattle.terms.specs.Term.{binary, operator-kind}
+use Rattle.terms.specs.Term.{call, SKIP, STOP, external, parallel, Term, binary, leaf-kind}
 use Rattle.terms.specs.Term as Term
-use Rattle.report.specs.Process.{Address, Process, leaf, prefix, internal, split, sequence, Ω, ⊥′, cells}
-use Rattle.report.specs.Process.{joined, untouched}
-use Rattle.report.proofs.Marked.{one, one-same, past, past-drawn}
-use Rattle.report.specs.Step.{Stepped, step, by-left}
+use Rattle.places.specs.Place.{Place}
+use Rattle.report.specs.Process.{Address, Split, choice, together, Process, leaf, prefix, internal, split}
+use Rattle.report.specs.Process.{sequence, Ω, ⊥′, cells, joined, untouched}
+use Rattle.report.specs.Track.{Label, first-eval}
+use Rattle.report.specs.Step.{Stepped, step, at-Ω}
 use Rattle.report.proofs.Holding.{held}
-use Rattle.plans.specs.Plan.{Layout, kind, word, second, around, Planned}
-use Rattle.frames.specs.TableFrame.{term-room}
-use Rattle.control.specs.Words.{put, reference-room}
-use Rattle.control.specs.Control.{term, Rests, Holds}
-use Rattle.taking.proofs.TrackLoops.{capped-below}
-use Rattle.taking.proofs.Sequences.{onward, onward-writes, left-ready, sequence-follows}
-use Rattle.control.proofs.Framed.{untouched-held, follows-told}
-use Rattle.control.proofs.Chains.{Awaiting, Tells}
-use Rattle.weighing.specs.Sums.{capped}
-use Rattle.weighing.proofs.Told.{From, wrapped}
-use Rattle.weighing.proofs.TermTold.{untouched-cells}
+use Rattle.plans.specs.Plan.{Layout, kind, around, Planned}
+use Rattle.plans.specs.Plan as Plan
+use Rattle.control.specs.Words.{reference-room}
+use Rattle.control.specs.Control.{term, first, second-side, split-kind, Rests}
+use Rattle.control.proofs.Chains.{Awaiting}
+use Rattle.weighing.specs.Looking.{digit-at, is-split}
+use Rattle.weighing.proofs.Told.{wrapped}
+use Rattle.weighing.proofs.TermTold.{untouched-on}
+use Rattle.stepping.specs.Marks.{one-node}
+use Rattle.stepping.specs.Leaves as Leaves
 use Rattle.stepping.specs.Take.{take}
-use Rattle.taking.proofs.Writing.{Words, nothing, behind}
-use Rattle.taking.proofs.Going.{at-words, Fits, Ready, Goes}
+use Rattle.taking.proofs.TrackLoops.{capped-below}
+use Rattle.taking.proofs.Writing.{Words, behind}
+use Rattle.taking.proofs.Going.{at-words, added, Fits}
+use Rattle.taking.proofs.Parts.{one-label, Formed, untouched-formed}
+use Rattle.taking.proofs.Settling.{Numbered, tells-told}
+use Rattle.taking.proofs.LeavesGo.{Low, leaf-goes}
+use Rattle.taking.proofs.Opening.{left, SomeSide, split-by-cells, ready-entry, open-to, open-writes}
+use Rattle.taking.proofs.Opening.{open-entry, open-cells}
+use Rattle.taking.proofs.Sideless.{leaf-sideless, entered-sideless}
+use Rattle.taking.proofs.SplitStep.{split-step, split-steps, entered-as, front, fronted, front-of}
+use Rattle.taking.proofs.SplitStep.{wrapped-fronted, split-fronted, first-front}
+use Rattle.taking.proofs.Nesting.{needs, needs-some, none-wrapped, Given, Went, Takes, given-room}
+use Rattle.taking.proofs.Nesting.{TakesBare, inside-sequences, at-sequence}
+use Rattle.taking.proofs.SplitTaken.{opened-goes}
 
--- how many calls a step of a process may nest
-pub needs : Process → ℕ
-needs (leaf v f) = 1
-needs (prefix v e P) = 1
-needs (internal v P Q) = 1
-needs (split v k none none P Q) = suc (suc (max (needs P) (needs Q)))
-needs (split v k none (some j) P Q) = suc (max (needs P) (needs Q))
-needs (split v k (some i) m P Q) = suc (max (needs P) (needs Q))
-needs (sequence v false P Q) = suc (needs P)
-needs (sequence v true P Q) = needs P
-needs Ω = 1
-needs ⊥′ = 1
+-- an untouched sequence
+abbrev Waiting : Process → Type 0
+Waiting (leaf v f) = ⊥
+Waiting (prefix v e P) = ⊥
+Waiting (internal v P Q) = ⊥
+Waiting (split v k m n P Q) = ⊥
+Waiting (sequence v false P Q) = Unit {0}
+Waiting (sequence v true P Q) = ⊥
+Waiting Ω = ⊥
+Waiting ⊥′ = ⊥
 
--- a number with a kind is a term's
-kind-low : (p : List ℕ) (i : ℕ) → (kind p i ≡ 0 → ⊥) → i < 1024
-unfolding word
-kind-low p i h = go (ltb i term-room) refl h
-  where
-    go : (c : Bool) → ltb i term-room ≡ c → (kind p i ≡ 0 → ⊥) → i < 1024
-    go true e k = ltb-true i term-room e
-    go false e k = absurd (k (rw e))
+-- how many calls an entered split needs
+needs-split : (v : Place) (k : Split) (m o : Option ℕ) (P Q : Process) → SomeSide m o
+    → needs (split v k m o P Q) ≡ suc (max (needs P) (needs Q))
+unfolding needs
+needs-split v k none none P Q h = absurd h
+needs-split v k none (some o) P Q h = refl
+needs-split v k (some m) o P Q h = refl
 
--- what is held is drawn
-held-below : (n : ℕ) (P : Process) (f : ℕ) → ((j : ℕ) → held j n P ≤ past j f) → (held n n P ≡ 0 → ⊥) → n < f
-held-below n P f h k = past-drawn n f (go (held n n P) (h n) k)
-  where
-    go : (m : ℕ) → m ≤ past n f → (m ≡ 0 → ⊥) → 1 ≤ past n f
-    go zero e k = absurd (k refl)
-    go (suc m) e k = omega (arith, e)
+module _ (l : Layout) (p x : List ℕ) (ts : List Term) (count : ℕ) (ds : List ℕ) (plan : Plan.Holds l p x ts)
+    (numbered : Numbered p) where
+  -- what looks no further down
+  low-taken : (deep n b : ℕ) (P : Process) (ks : List ℕ) (at size : ℕ) (u : Words) → Low P
+      → Rests l p x (u .nodes) n b ks P
+      → Formed l p x (u .nodes) (term (u .nodes) n) (around p (term (u .nodes) n)) P
+      → take p count ds (suc deep) n b at size (u .tally) (u .nodes) (u .track)
+      ≡ Leaves.leaf p n b at size (digit-at ds count at) (u .tally) (u .nodes) (u .track)
+  unfolding take is-split leaf-kind
+  low-taken deep n b (leaf v (call m)) ks at size u low r f = rw (r .rests, f .1)
+  low-taken deep n b (leaf v SKIP) ks at size u low r f = rw (r .rests, f .1)
+  low-taken deep n b (leaf v STOP) ks at size u low r f = rw (r .rests, f .1)
+  low-taken deep n b (prefix v e P) ks at size u low r f = rw (r .rests, f .1)
+  low-taken deep n b (internal v P Q) ks at size u low r f = rw (r .rests, f .1)
+  low-taken deep n b (split v k m o P Q) ks at size u low r f = absurd low
+  low-taken deep n b (sequence v c P Q) ks at size u low r f = absurd low
+  low-taken deep n b Ω ks at size u low r f = absurd low
+  low-taken deep n b ⊥′ ks at size u low r f = absurd low
 
-module _ (l : Layout) (p x : List ℕ) (ts : List Term) (count : ℕ) (ds : List ℕ) where
-  -- a step of P at reference n, by the digits from `at` on
-  pub record Given (left n b : ℕ) (P : Process) (ks : List ℕ) (qs : List Awaiting) (at size : ℕ) (a : Address)
-      (u : Words) (y : Stepped) : Type 0 where
-    pub ready : Ready l p x count n b P ks u
-    pub tells : Tells l p x (u .nodes) ks qs
-    pub from : From ds count at a
-    pub enough : needs P ≤ left
-    pub sized : size ≡ length ks + cells P
-    pub small : size + 2 * needs P ≤ 4096
-    pub steps : wrapped qs (step ts P (at-words n u) a) ≡ some y
-    pub fits : Fits u (y .outcome)
+  module _ (deep n b : ℕ) (ks : List ℕ) (qs : List Awaiting) (at size : ℕ) (a : Address) (u : Words)
+      (y : Stepped) where
+    abbrev Given-so : Process → Type 0
+    Given-so P = Given l p x ts count ds (suc deep) n b P ks qs at size a u y
 
-  abbrev pub Takes : ℕ → Type 0
-  Takes left = (n b : ℕ) (P : Process) (ks : List ℕ) (qs : List Awaiting) (at size : ℕ) (a : Address) (u : Words)
-      (y : Stepped) → Given left n b P ks qs at size a u y
-      → Goes l p x count n b P u y (take p count ds left n b at size (u .tally) (u .nodes) (u .track))
+    abbrev Went-so : Process → Type 0
+    Went-so P = Went l p x ts count ds n b P u y
+        (take p count ds (suc deep) n b at size (u .tally) (u .nodes) (u .track))
 
-  -- sequences that are told of by some words are by any
-  tells-kept : (w w′ : List ℕ) (ks : List ℕ) (qs : List Awaiting) → Tells l p x w ks qs → Tells l p x w′ ks qs
-  tells-kept w w′ [] [] h = h
-  tells-kept w w′ [] (q ∷ qs) h = absurd h
-  tells-kept w w′ (k ∷ ks) [] h = absurd h
-  tells-kept w w′ (k ∷ ks) (q ∷ qs) h =
-      (follows-told l p x w w′ k (q .place) (q .right) (h .0), tells-kept w w′ ks qs (h .1))
-
-  -- a process that is no entered sequence
-  abbrev pub Bare : Process → Type 0
-  Bare (leaf v f) = Unit {0}
-  Bare (prefix v e P) = Unit {0}
-  Bare (internal v P Q) = Unit {0}
-  Bare (split v k m₁ m₂ P Q) = Unit {0}
-  Bare (sequence v false P Q) = Unit {0}
-  Bare (sequence v true P Q) = ⊥
-  Bare Ω = Unit {0}
-  Bare ⊥′ = Unit {0}
-
-  abbrev pub TakesBare : ℕ → Type 0
-  TakesBare left = (n b : ℕ) (P : Process) (ks : List ℕ) (qs : List Awaiting) (at size : ℕ) (a : Address) (u : Words)
-      (y : Stepped) → Bare P → Given left n b P ks qs at size a u y
-      → Goes l p x count n b P u y (take p count ds left n b at size (u .tally) (u .nodes) (u .track))
-
-  -- entered sequences wait around it
-  pub inside-sequences : (left : ℕ) → TakesBare left → (P : Process) (n b : ℕ) (ks : List ℕ) (qs : List Awaiting)
-      (at size : ℕ) (a : Address) (u : Words) (y : Stepped) → Given left n b P ks qs at size a u y
-      → Goes l p x count n b P u y (take p count ds left n b at size (u .tally) (u .nodes) (u .track))
-  unfolding held wrapped step cells needs
-  inside-sequences left h (leaf v f) n b ks qs at size a u y g = h n b (leaf v f) ks qs at size a u y tt g
-  inside-sequences left h (prefix v e P) n b ks qs at size a u y g = h n b (prefix v e P) ks qs at size a u y tt g
-  inside-sequences left h (internal v P Q) n b ks qs at size a u y g = h n b (internal v P Q) ks qs at size a u y tt g
-  inside-sequences left h (split v k m₁ m₂ P Q) n b ks qs at size a u y g =
-      h n b (split v k m₁ m₂ P Q) ks qs at size a u y tt g
-  inside-sequences left h (sequence v false P Q) n b ks qs at size a u y g =
-      h n b (sequence v false P Q) ks qs at size a u y tt g
-  inside-sequences left h (sequence v true P Q) n b ks qs at size a u y g =
-      let held-there = g .ready .holds in
-      let inner = inside-sequences left h P n b (held-there .0 ∷ ks) (record { place = v; right = Q } ∷ qs) at size a u y
-      (record {
-        ready = record {
-          sound = g .ready .sound;
-          holds = held-there .2;
-          fit = g .ready .fit .0;
-          once = g .ready .once;
-        };
-        tells = (held-there .1, g .tells);
-        from = g .from;
-        enough = g .enough;
-        sized = omega (arith, g .sized);
-        small = g .small;
-        steps = g .steps;
-        fits = g .fits;
-      }) in
-      record { matches = inner .matches; size-is = inner .size-is; holds = inner .holds }
-  inside-sequences left h Ω n b ks qs at size a u y g = h n b Ω ks qs at size a u y tt g
-  inside-sequences left h ⊥′ n b ks qs at size a u y g = h n b ⊥′ ks qs at size a u y tt g
-
-  -- a sequence that no step has touched
-  module _ (left n b i : ℕ) (ks : List ℕ) (qs : List Awaiting) (at size : ℕ) (a : Address) (u : Words) (y : Stepped)
-      (t s : Term) (r : Rests l p x (u .nodes) n b ks (untouched (l .place i) (binary Term.sequence t s)))
-      (is : term (u .nodes) n ≡ i) (planned : Planned l p x i (around p i) (binary Term.sequence t s))
-      (fresh-fits : u .tally .fresh ≤ reference-room)
-      (g : Given (suc left) n b (untouched (l .place i) (binary Term.sequence t s)) ks qs at size a u y) where
-    sequence-low : i < 1024
-    unfolding operator-kind
-    sequence-low = kind-low p i (λ z. let e : _≡_ {A = ℕ} 0 5 = sym z ∙ planned .0 in omega arith)
-
-    sequence-drawn : n < u .tally .fresh
-    sequence-drawn =
-        let P = untouched (l .place i) (binary Term.sequence t s) in
-        held-below n P (u .tally .fresh) (g .ready .once)
-        (λ z. omega (
-          arith,
-          z,
-          one-same n n refl,
-          untouched-held l p x (u .nodes) _ _ P (r .untouched-there) n n,
-        ))
-
-    sequence-takes : take p count ds (suc left) n b at size (u .tally) (u .nodes) (u .track)
-        ≡ take p count ds left n b at (size + 1) (u .tally) (put 2 (u .nodes) n (suc i)) (u .track)
-    unfolding take operator-kind
-    sequence-takes =
-        let kind-is : kind p i ≡ 5 = planned .0 in
-        let next : capped (i + 1) ≡ suc i = capped-below (i + 1) (omega (arith, sequence-low)) ∙ add-one i in
-        simp (r .rests, is, kind-is, next, capped-below (size + 1) (omega (arith, g .small)))
-
-    pub at-sequence : Takes left → Goes l p x count n b (untouched (l .place i) (binary Term.sequence t s)) u y
-        (take p count ds (suc left) n b at size (u .tally) (u .nodes) (u .track))
-    unfolding held untouched joined needs cells step wrapped
-    at-sequence takes =
-        let below-is = planned .3 in
-        let at-right = planned .4 in
-        let v = onward n (suc i) u in
-        let q : Awaiting = record { place = l .place i; right = untouched (l .place (second p i)) s } in
-        let inner : Goes l p x count n b (untouched (l .place (suc i)) t) v y
-        (take p count ds left n b at (size + 1) (u .tally) (put 2 (u .nodes) n (suc i)) (u .track)) =
-        takes n b (untouched (l .place (suc i)) t) (i ∷ ks) (q ∷ qs) at (size + 1) a v y
-        (record {
-          ready = left-ready l p x n b i ks t s u fresh-fits r is sequence-low sequence-drawn
-              (g .ready .sound .whole-nodes) planned count (g .ready .sound) (g .ready .once);
-          tells = (
-            sequence-follows l p x n b i ks t s u fresh-fits r is sequence-low sequence-drawn
-                (g .ready .sound .whole-nodes) planned,
-            tells-kept (u .nodes) (v .nodes) ks qs (g .tells),
-          );
-          from = g .from;
-          enough = rw below-is (omega (arith, g .enough));
-          sized = rw (untouched-cells (l .place (suc i)) t) (omega (arith, g .sized));
-          small = rw below-is (omega (arith, g .small));
-          steps = rw (below-is, at-right) (g .steps);
-          fits = record {
-            fresh-fits = g .fits .fresh-fits;
-            nodes-fit = g .fits .nodes-fit;
-            arcs-fit = g .fits .arcs-fit;
-            meetings-fit = g .fits .meetings-fit;
-            met-fit = g .fits .met-fit;
-            cells-fit = g .fits .cells-fit;
-          };
-        }) in
-        let own : ℕ → ℕ = λ j. held j n (untouched (l .place i) (binary Term.sequence t s)) in
-        let there = inner .matches in
-        rw sequence-takes
-        (record {
-          matches = record {
-            writes = behind l own (λ j. held j n (untouched (l .place (suc i)) t)) u v _ nothing _
-                (λ j d e. rw below-is e)
-                (onward-writes l n (suc i) u (r .bare) sequence-drawn own
-                (λ z. omega (
-                  arith,
-                  z,
-                  one-same n n refl,
-                  untouched-held l p x (u .nodes) _ _ (untouched (l .place i) (binary Term.sequence t s))
-                      (r .untouched-there) n n,
-                )))
-                (there .writes);
-            fresh-is = there .fresh-is;
-            event-is = there .event-is;
-            reference-is = there .reference-is;
-            at-is = there .at-is;
-          };
-          size-is = inner .size-is;
-          holds = inner .holds;
+    at-low : (P : Process) → Low P → Rests l p x (u .nodes) n b ks P → cells P ≡ 1 → Given-so P → Went-so P
+    at-low P low r single g =
+        let form = untouched-formed l p x (u .nodes) _ _ P (r .untouched-there) in
+        rw (low-taken deep n b P ks at size u low r form) (record {
+          goes = leaf-goes l p x count ds ts n b ks qs u at size y plan numbered (g .tells)
+              (g .sized ∙ ap (λ q. length ks + q) single) (g .fits) P a low (g .calls) (g .ready) (g .from)
+              (g .steps);
+          keeps = leaf-sideless p n b at size (digit-at ds count at) (u .tally) (u .nodes) (u .track)
+              (g .sideless);
         })
+
+    -- an untouched sequence, by its tree
+    by-tree : Takes l p x ts count ds deep → (t : Term)
+        → Planned l p x (term (u .nodes) n) (around p (term (u .nodes) n)) t
+        → Waiting (untouched (l .place (term (u .nodes) n)) t)
+        → Rests l p x (u .nodes) n b ks (untouched (l .place (term (u .nodes) n)) t)
+        → Given-so (untouched (l .place (term (u .nodes) n)) t)
+        → Went-so (untouched (l .place (term (u .nodes) n)) t)
+    unfolding untouched joined
+    by-tree takes (Term.leaf f) planned h r g = absurd h
+    by-tree takes (Term.prefix e t) planned h r g = absurd h
+    by-tree takes (binary Term.internal t s) planned h r g = absurd h
+    by-tree takes (binary external t s) planned h r g = absurd h
+    by-tree takes (binary Term.sequence t s) planned h r g =
+        at-sequence l p x ts count ds deep n b (term (u .nodes) n)
+        ks qs at size a u y t s r refl planned g takes
+    by-tree takes (binary (parallel z) t s) planned h r g = absurd h
+
+    at-waiting : Takes l p x ts count ds deep → (P : Process) → Waiting P → Rests l p x (u .nodes) n b ks P
+        → Given-so P → Went-so P
+    at-waiting takes P h r g =
+        let there = r .untouched-there in
+        subst (λ R. Waiting R → Rests l p x (u .nodes) n b ks R → Given-so R → Went-so R) (sym (there .is))
+        (by-tree takes (there .tree) (there .planned)) h r g
+
+    -- an entered split
+    at-entered : Takes l p x ts count ds deep → (v : Place) (k : Split) (m o : Option ℕ) (P Q : Process)
+        → SomeSide m o
+        → Given-so (split v k m o P Q) → Went-so (split v k m o P Q)
+    at-entered takes v k m o P Q h g =
+        let is-cells = split-by-cells left v k m o P Q h in
+        let is-needs = needs-split v k m o P Q h in
+        let as-entered = entered-as m o 0 v (at-words n u) h in
+        let enough = g .enough in
+        let small = g .small in
+        let sized = g .sized in
+        opened-goes l p x ts count ds numbered deep takes n b ks qs v m o P Q 0 at size u y (g .fits) k a
+        (record {
+          entry = ready-entry l p x count n b ks v k u left m o P Q h (g .ready);
+          sideless = g .sideless;
+          tells = g .tells;
+          calls = g .calls .0;
+          other-calls = g .calls .1;
+          enough = omega (arith, enough, is-needs);
+          other-enough = omega (arith, enough, is-needs);
+          small = omega (arith, small, is-needs, sized, is-cells);
+          other-small = omega (arith, small, is-needs, sized, is-cells);
+          sized = omega (arith, sized, is-cells);
+          few = omega (arith, small);
+        })
+        (g .from)
+        (rw (split-steps ts v k m o P Q (at-words n u) a, as-entered .0, as-entered .1) at (g .steps))
+
+    -- an untouched split
+    open-taken : (v : Place) (k : Split) (P Q : Process) → Rests l p x (u .nodes) n b ks
+        (split v k none none P Q)
+        → kind p (term (u .nodes) n) ≡ split-kind k → size + 2 ≤ 65535
+        → take p count ds (suc deep) n b at size (u .tally) (u .nodes) (u .track)
+        ≡ take p count ds deep n b at (size + 2) (open-to n u .tally) (open-to n u .nodes) (u .track)
+    unfolding take is-split split-kind
+    open-taken v choice P Q r e few = rw (r .rests, e, capped-below (size + 2) (omega arith))
+    open-taken v (together f) P Q r e few = rw (r .rests, e, capped-below (size + 2) (omega arith))
+
+  -- the depth before the last
+  abbrev Before : ℕ → Type 0
+  Before zero = Unit {0}
+  Before (suc deep) = Takes l p x ts count ds deep
+
+  module _ (deep n b : ℕ) (ks : List ℕ) (qs : List Awaiting) (at size : ℕ) (a : Address) (u : Words)
+      (y : Stepped)
+      (v : Place) (k : Split) (P Q : Process)
+      (g : Given l p x ts count ds (suc (suc deep)) n b (split v k none none P Q) ks qs at size a u y) where
+    abbrev here : Process
+    here = split v k none none P Q
+
+    abbrev mark : Label
+    mark = record { reference = n; place = v }
+
+    abbrev opened : Words
+    opened = open-to n u
+
+    abbrev open-step : Option Stepped
+    open-step = split-step ts v k none none P Q (first-eval none (some 0) v (at-words n u))
+        (first-eval none (some 0) v (at-words n u)) (at-words n u) a
+
+    opened-form : Formed l p x (u .nodes) (term (u .nodes) n) (around p (term (u .nodes) n)) here
+    opened-form = untouched-formed l p x (u .nodes) _ _ here (g .ready .holds .untouched-there)
+
+    -- its label comes in front of the step of what it is once it is open
+    opened-not : at-Ω P ≡ false
+    opened-not = let there = opened-form .3 in ap at-Ω (there .is) ∙ untouched-on _ (there .tree)
+
+    opened-steps : fronted mark (wrapped qs open-step) ≡ some y
+    opened-steps =
+        let s = at-words n u in
+        let i = first-eval none (some 0) v s in
+        let first-is : step ts here s a ≡ fronted mark open-step =
+        split-steps ts v k none none P Q s a
+        ∙ ap (λ q. split-step ts v k none none P Q q q s a) (first-front 0 v s)
+        ∙ split-fronted mark ts v k none none P Q i i s a opened-not in
+        sym (ap (wrapped qs) first-is ∙ wrapped-fronted mark qs open-step) ∙ g .steps
+
+    opened-fits : (z : Stepped) → Fits u (front mark z .outcome) → Fits opened (z .outcome)
+    unfolding one-node
+    opened-fits z fits =
+        let more : u .tally .nodes + suc (length (z .outcome .labels)) ≤ 4096 = fits .nodes-fit in
+        record {
+          fresh-fits = fits .fresh-fits;
+          nodes-fit = rw (capped-below (u .tally .nodes + 1) (omega arith)) (omega arith);
+          arcs-fit = fits .arcs-fit;
+          meetings-fit = fits .meetings-fit;
+          met-fit = fits .met-fit;
+          cells-fit = fits .cells-fit;
+        }
+
+    module _ (takes : Takes l p x ts count ds deep) (z : Stepped) (steps : wrapped qs open-step ≡ some z)
+        (fits : Fits u (front mark z .outcome)) where
+      bare-sides : (first (u .nodes) n ≡ 0) × (second-side (u .nodes) n ≡ 0)
+      bare-sides = g .sideless .none-there n (g .ready .holds .bare)
+
+      room : u .tally .fresh ≤ reference-room
+      room = given-room l p x ts count ds (suc (suc deep)) n b here ks qs at size a u y g
+
+      opened-went : Went l p x ts count ds n b here opened z
+          (take p count ds (suc deep) n b at (size + 2) (opened .tally) (opened .nodes) (u .track))
+      unfolding needs cells one-node
+      opened-went =
+          let single = open-cells l p x count n b ks v k P Q u (g .ready) bare-sides room in
+          let enough = g .enough in
+          let small = g .small in
+          let sized = g .sized in
+          opened-goes l p x ts count ds numbered deep takes n b ks qs v none none P Q 0 at (size + 2) opened z
+          (opened-fits z fits) k a
+          (record {
+            entry = open-entry l p x count n b ks v k P Q u (g .ready) bare-sides room;
+            sideless = entered-sideless n (term (u .nodes) n) (u .nodes) (g .sideless);
+            tells = tells-told l p x (u .nodes) (opened .nodes) ks qs (g .tells);
+            calls = g .calls .0;
+            other-calls = g .calls .1;
+            enough = omega (arith, enough);
+            other-enough = omega (arith, enough);
+            small = omega (arith, small, single .0);
+            other-small = omega (arith, small, single .1);
+            sized = omega (arith, sized, single .0, single .1);
+            few = omega (arith, small);
+          })
+          (g .from) steps
+
+      open-went : Went l p x ts count ds n b here u (front mark z)
+          (take p count ds (suc (suc deep)) n b at size (u .tally) (u .nodes) (u .track))
+      unfolding held
+      open-went =
+          let there = opened-went .goes .matches in
+          let own : ℕ → ℕ = λ j. held j n here in
+          let few : u .tally .nodes + suc (length (z .outcome .labels)) ≤ 4096 = fits .nodes-fit in
+          rw (open-taken (suc deep) n b ks qs at size a u y v k P Q (g .ready .holds) (opened-form .1)
+          (omega (arith, g .small))) (record {
+            goes = record {
+              matches = record {
+                writes = behind l own own u opened _ (one-label n v) (added (z .outcome)) (λ j d e. e)
+                    (open-writes l p x count n b ks v k P Q u (g .ready) bare-sides room own (λ j e. e)
+                    (omega (arith, few)))
+                    (there .writes);
+                fresh-is = there .fresh-is;
+                event-is = there .event-is;
+                reference-is = there .reference-is;
+                at-is = there .at-is;
+              };
+              size-is = opened-went .goes .size-is;
+              holds = opened-went .goes .holds;
+            };
+            keeps = opened-went .keeps;
+          })
+
+    at-open : Takes l p x ts count ds deep → Went l p x ts count ds n b here u y
+        (take p count ds (suc (suc deep)) n b at size (u .tally) (u .nodes) (u .track))
+    at-open takes =
+        let (z, is, same) = front-of mark (wrapped qs open-step) y opened-steps in
+        subst (λ q. Went l p x ts count ds n b here u q
+        (take p count ds (suc (suc deep)) n b at size (u .tally) (u .nodes) (u .track))) (sym same)
+        (open-went takes z is (subst (λ q. Fits u (q .outcome)) same (g .fits)))
+
+  -- an untouched split goes two levels down
+  at-untouched : (deep : ℕ) → Before deep → (n b : ℕ) (ks : List ℕ) (qs : List Awaiting) (at size : ℕ)
+      (a : Address)
+      (u : Words) (y : Stepped) (v : Place) (k : Split) (P Q : Process)
+      → Given l p x ts count ds (suc deep) n b (split v k none none P Q) ks qs at size a u y
+      → Went l p x ts count ds n b (split v k none none P Q) u y
+      (take p count ds (suc deep) n b at size (u .tally) (u .nodes) (u .track))
+  unfolding needs
+  at-untouched zero before n b ks qs at size a u y v k P Q g =
+      let enough = g .enough in absurd (omega (arith, enough))
+  at-untouched (suc deep) before n b ks qs at size a u y v k P Q g =
+      at-open deep n b ks qs at size a u y v k P Q g before
+
+  bare-takes : (deep : ℕ) → Takes l p x ts count ds deep → Before deep
+      → TakesBare l p x ts count ds (suc deep)
+  unfolding cells step
+  bare-takes deep takes before n b (leaf v f) ks qs at size a u y bare g =
+      at-low deep n b ks qs at size a u y (leaf v f) tt (g .ready .holds) refl g
+  bare-takes deep takes before n b (prefix v e P) ks qs at size a u y bare g =
+      at-low deep n b ks qs at size a u y (prefix v e P) tt (g .ready .holds) refl g
+  bare-takes deep takes before n b (internal v P Q) ks qs at size a u y bare g =
+      at-low deep n b ks qs at size a u y (internal v P Q) tt (g .ready .holds) refl g
+  bare-takes deep takes before n b (split v k none none P Q) ks qs at size a u y bare g =
+      at-untouched deep before n b ks qs at size a u y v k P Q g
+  bare-takes deep takes before n b (split v k none (some o) P Q) ks qs at size a u y bare g =
+      at-entered deep n b ks qs at size a u y takes v k none (some o) P Q tt g
+  bare-takes deep takes before n b (split v k (some m) o P Q) ks qs at size a u y bare g =
+      at-entered deep n b ks qs at size a u y takes v k (some m) o P Q tt g
+  bare-takes deep takes before n b (sequence v false P Q) ks qs at size a u y bare g =
+      at-waiting deep n b ks qs at size a u y takes (sequence v false P Q) tt (g .ready .holds) g
+  bare-takes deep takes before n b (sequence v true P Q) ks qs at size a u y bare g = absurd bare
+  bare-takes deep takes before n b Ω ks qs at size a u y bare g = absurd (none-wrapped qs y (g .steps))
+  bare-takes deep takes before n b ⊥′ ks qs at size a u y bare g = absurd (none-wrapped qs y (g .steps))
+
+  both-takes : (deep : ℕ) → Takes l p x ts count ds deep × Before deep
+  both-takes zero = (
+    λ n b P ks qs at size a u y g. let enough = g .enough in absurd (omega (arith, enough, needs-some P)),
+    tt,
+  )
+  both-takes (suc deep) =
+      let (takes, before) = both-takes deep in (
+        λ n b P. inside-sequences l p x ts count ds (suc deep) (bare-takes deep takes before) P n b,
+        takes,
+      )
+
+  -- the step that the words take is the step of the rules
+  pub takes : (deep : ℕ) → Takes l p x ts count ds deep
+  takes deep = both-takes deep .0
