@@ -2,6 +2,7 @@
 -- side has path 0. The right-hand side's root has the empty path. Subterms of a term at w are at w.1 and w.2;
 -- a prefix's event is at w.1, its arrow at w, its continuation at w.2.
 use Prim.Native.Nat.{ℕ, zero, suc, _+_, _-_}
+use mathlib.Core.Bool.{Bool, true, false, _&&_}
 use mathlib.Core.List.{List, [], _∷_, _++_}
 use mathlib.Core.Option.{Option, none, some}
 use lib.Dec.{ltb, eqb}
@@ -73,3 +74,13 @@ literal-at (binary o t u) [] = some (own 0)
 literal-at (binary o t u) (x ∷ w) =
     choose (eqb x 1) (shifted 1 (literal-at t w))
     (choose (eqb x 2) (shifted (1 + size t) (literal-at u w)) none)
+
+-- a path begins with another
+unfoldable pub begins : List ℕ → List ℕ → Bool
+begins [] p = true
+begins (x ∷ q) [] = false
+begins (x ∷ q) (y ∷ p) = eqb x y && begins q p
+
+-- place v is at or under w.x: of the same definition, with a path that begins so
+unfoldable pub under : Place → ℕ → Place → Bool
+under w x v = eqb (v .definition) (w .definition) && begins (w .path ++ (x ∷ [])) (v .path)

@@ -15,7 +15,7 @@ use borrow.Author.Tests.{eqb-true, eqb-false, eq-eqb, ne-eqb, lt-ltb}
 use Rattle.lines.specs.Line.{choose}
 use Rattle.terms.specs.Term.{external, parallel, Term}
 use Rattle.terms.specs.Term as Term
-use Rattle.places.specs.Place.{Place}
+use Rattle.places.specs.Place.{Place, under}
 use Rattle.report.specs.Process.{below, untouched}
 use Rattle.report.specs.Track.{Label, Pair}
 use Rattle.report.specs.Run.{State, Reached}
@@ -25,7 +25,7 @@ use Rattle.report.proofs.Placed.{found}
 use Rattle.report.proofs.Weighed.{share, share-most, share-more, share-is, share-not, drawn-next}
 use Rattle.report.proofs.Weighed.{drawn-once, sum, sum-none, between, weight-of}
 use Rattle.report.proofs.Parents.{runs, arcs-once}
-use Rattle.report.proofs.Sided.{Splits, opens, Under, under, true-under, elsewhere, not-elsewhere}
+use Rattle.report.proofs.Sided.{Splits, opens, Under, true-under, elsewhere, not-elsewhere}
 use Rattle.report.proofs.Sided.{when, when-most, allowance, allowance-one, allowance-sides}
 use Rattle.report.proofs.Sided.{allowance-under, allowance-elsewhere}
 use Rattle.report.proofs.Gauged.{Gauge, gauged}

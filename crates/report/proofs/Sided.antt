@@ -15,7 +15,7 @@ use borrow.Author.Tests.{eqb-true, eq-eqb}
 use Rattle.lines.specs.Line.{choose}
 use Rattle.terms.specs.Term.{Leaf, external, parallel, Term}
 use Rattle.terms.specs.Term as Term
-use Rattle.places.specs.Place.{Place, left-path}
+use Rattle.places.specs.Place.{Place, left-path, begins, under}
 use Rattle.report.specs.Process.{Split, choice, together, Process, leaf, prefix, internal, split}
 use Rattle.report.specs.Process.{sequence, Ω, ⊥′, below, joined, untouched}
 use Rattle.report.specs.Plain.{operator}
@@ -103,53 +103,43 @@ opens-at v w (Term.binary (parallel x) t u) = ([], opens-here v w)
 abbrev pub Under : Place → ℕ → Place → Type 0
 Under w x v = (v .definition ≡ w .definition) × (p : List ℕ) × (v .path ≡ w .path ++ (x ∷ p))
 
--- the test whether a path begins with another
-unfoldable pub starts : List ℕ → List ℕ → Bool
-starts [] p = true
-starts (x ∷ q) [] = false
-starts (x ∷ q) (y ∷ p) = eqb x y && starts q p
-
--- the test whether v is at or under x below w
-unfoldable pub under : Place → ℕ → Place → Bool
-under w x v = eqb (v .definition) (w .definition) && starts (w .path ++ (x ∷ [])) (v .path)
-
 both : (a b : Bool) → (a && b) ≡ true → (a ≡ true) × (b ≡ true)
 both true b e = (refl, e)
 both false b e = let z : _≡_ {A = ℕ} 0 1 = cc in absurd (omega arith)
 
-starts-on : (q p : List ℕ) → starts q p ≡ true → (r : List ℕ) × (p ≡ q ++ r)
-unfolding starts
-starts-on [] p e = (p, refl)
-starts-on (x ∷ q) [] e = let z : _≡_ {A = ℕ} 0 1 = cc in absurd (omega arith)
-starts-on (x ∷ q) (y ∷ p) e =
-    let (same, more) = both (eqb x y) (starts q p) e in
-    let (r, is) = starts-on q p more in
+begins-on : (q p : List ℕ) → begins q p ≡ true → (r : List ℕ) × (p ≡ q ++ r)
+unfolding begins
+begins-on [] p e = (p, refl)
+begins-on (x ∷ q) [] e = let z : _≡_ {A = ℕ} 0 1 = cc in absurd (omega arith)
+begins-on (x ∷ q) (y ∷ p) e =
+    let (same, more) = both (eqb x y) (begins q p) e in
+    let (r, is) = begins-on q p more in
     let head = eqb-true x y same in
     (r, cc)
 
 -- a path that goes on with y begins with what goes on with x where they are the same
-starts-side : (q p : List ℕ) (x y : ℕ) → starts (q ++ (x ∷ [])) ((q ++ (y ∷ [])) ++ p) ≡ eqb x y
-unfolding starts
-starts-side [] p x y = go (eqb x y)
+begins-side : (q p : List ℕ) (x y : ℕ) → begins (q ++ (x ∷ [])) ((q ++ (y ∷ [])) ++ p) ≡ eqb x y
+unfolding begins
+begins-side [] p x y = go (eqb x y)
   where
     go : (b : Bool) → (b && true) ≡ b
     go true = refl
     go false = refl
-starts-side (z ∷ q) p x y = rw (eq-eqb z z refl) (starts-side q p x y)
+begins-side (z ∷ q) p x y = rw (eq-eqb z z refl) (begins-side q p x y)
 
 -- what is under y below w is under x below w where they are the same
 under-side : (w v : Place) (x y : ℕ) (p : List ℕ) → v .definition ≡ w .definition
     → v .path ≡ (w .path ++ (y ∷ [])) ++ p → under w x v ≡ eqb x y
 unfolding under
-under-side w v x y p d e = rw (eq-eqb (v .definition) (w .definition) d, e) (starts-side (w .path) p x y)
+under-side w v x y p d e = rw (eq-eqb (v .definition) (w .definition) d, e) (begins-side (w .path) p x y)
 
 -- the test says what it tests
 pub under-true : (w v : Place) (x : ℕ) → under w x v ≡ true → Under w x v
 unfolding under
 under-true w v x e =
     let q = w .path ++ (x ∷ []) in
-    let (same, more) = both (eqb (v .definition) (w .definition)) (starts q (v .path)) e in
-    let (p, is) = starts-on q (v .path) more in
+    let (same, more) = both (eqb (v .definition) (w .definition)) (begins q (v .path)) e in
+    let (p, is) = begins-on q (v .path) more in
     (eqb-true (v .definition) (w .definition) same, p, is ∙ append-assoc (w .path) (x ∷ []) p)
 
 pub true-under : (w v : Place) (x : ℕ) → Under w x v → under w x v ≡ true

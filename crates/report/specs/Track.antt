@@ -13,6 +13,11 @@ pub record Label : Type 0 where
   pub reference : ℕ
   pub place : Place
 
+-- the place that a reference has among labels
+unfoldable pub lookup : ℕ → List Label → Option Place
+lookup n [] = none
+lookup n (m ∷ ms) = choose (eqb n (m .reference)) (some (m .place)) (lookup n ms)
+
 -- an arc, or a meeting, between two references
 pub record Pair : Type 0 where
   pub from : ℕ

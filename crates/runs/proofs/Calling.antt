@@ -24,7 +24,7 @@ use Rattle.control.specs.Control as Control
 use Rattle.weighing.proofs.Counts.{capped-small}
 use Rattle.weighing.proofs.Told.{told, From, from-at}
 use Rattle.stepping.specs.Marks.{one-node, one-arc, drawn, labelled, standing}
-use Rattle.stepping.specs.Views.{place-told, marked, lookup}
+use Rattle.stepping.specs.Views.{place-told, marked}
 use Rattle.stepping.specs.Leaves.{called, on}
 use Rattle.taking.proofs.NodeViews.{standing-elsewhere, labelled-whole, labelled-elsewhere}
 use Rattle.taking.proofs.Writing.{Writes}
@@ -35,6 +35,7 @@ use Rattle.runs.specs.Counting.{tally-of}
 use Rattle.runs.specs.Held.{Table, Holds}
 use Rattle.runs.proofs.Weights.{rhs-cells}
 use Rattle.runs.proofs.Keeping.{run-words}
+use Rattle.report.specs.Track.{lookup}
 
 -- the left-hand side of definition 00
 abbrev left-side : Place

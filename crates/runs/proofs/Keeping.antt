@@ -24,13 +24,14 @@ use Rattle.control.specs.Control as Control
 use Rattle.control.proofs.Chains.{holds-within}
 use Rattle.control.proofs.Framed.{untouched-held}
 use Rattle.offers.specs.Told.{stands}
-use Rattle.stepping.specs.Views.{arcs-of, meetings-of, lookup, first-of}
+use Rattle.stepping.specs.Views.{arcs-of, meetings-of, first-of}
 use Rattle.stepping.specs.Leaves.{Done}
 use Rattle.taking.proofs.Sideless.{Sideless}
 use Rattle.taking.proofs.Writing.{Words, lookup-append}
 use Rattle.taking.proofs.Going.{Goes}
 use Rattle.runs.specs.Counting.{tally-of, narrow, recounted}
 use Rattle.runs.specs.Held.{Tells, Whole, Holds}
+use Rattle.report.specs.Track.{lookup}
 
 -- nothing is held at reference 0
 nowhere : (n b : ℕ) → b < n → one 0 n ≡ 0

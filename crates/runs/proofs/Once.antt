@@ -9,8 +9,8 @@ use Rattle.terms.specs.Term.{Term}
 use Rattle.report.specs.Process.{cells}
 use Rattle.report.specs.Run.{State}
 use Rattle.plans.specs.Plan.{Layout}
-use Rattle.stepping.specs.Views.{lookup}
 use Rattle.runs.specs.Held.{Tells, Holds}
+use Rattle.report.specs.Track.{lookup}
 
 -- states with the same counters and the same track
 pub record Alike (s t : State) : Type 0 where

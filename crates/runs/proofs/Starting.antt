@@ -15,10 +15,11 @@ use Rattle.report.specs.Run.{start, begun}
 use Rattle.plans.specs.Plan.{Layout}
 use Rattle.control.specs.Words.{reference-room, node}
 use Rattle.offers.specs.Told.{starts}
-use Rattle.stepping.specs.Views.{pairs, lookup}
+use Rattle.stepping.specs.Views.{pairs}
 use Rattle.taking.proofs.NodeViews.{marked-none}
 use Rattle.runs.specs.Code.{fresh-nodes, fresh-track, fresh-counters}
 use Rattle.runs.specs.Held.{Tells, Whole, Holds}
+use Rattle.report.specs.Track.{lookup}
 
 -- words that are all 0
 abbrev zeros : ℕ → List ℕ

@@ -21,11 +21,12 @@ use Rattle.control.specs.Control.{label, state, first, second-side, resting}
 use Rattle.control.specs.declared.Event.the-variants.{Tau, Tick, Visible}
 use Rattle.control.specs.declared.Event as Shown
 use Rattle.weighing.specs.Looking.{digit-at}
-use Rattle.stepping.specs.Views.{arcs-of, meetings-of, marked, lookup}
+use Rattle.stepping.specs.Views.{arcs-of, meetings-of, marked}
 use Rattle.offers.specs.Told.{Low, Controls}
 use Rattle.runs.specs.Counting.{reference, fresh, cells, nodes, arcs, meetings}
 use Rattle.runs.specs.declared.Answer.{Answer}
 use Rattle.runs.specs.declared.Answer.the-variants.{Accepted, Refused}
+use Rattle.report.specs.Track.{lookup}
 
 -- a table whose definitions a plan and its sets hold: definition 00 begins it, every definition that it calls is there, and
 -- the sequences around its terms are terms

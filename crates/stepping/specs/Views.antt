@@ -7,7 +7,7 @@ use lib.Dec.{eqb}
 use Rattle.lines.specs.Line.{choose}
 use Rattle.places.specs.Place.{Place, left-path}
 use Rattle.report.specs.Process.{below}
-use Rattle.report.specs.Track.{Label, Pair, pair}
+use Rattle.report.specs.Track.{Pair, pair}
 use Rattle.plans.specs.Plan.{Layout}
 use Rattle.control.specs.Words.{track-word}
 use Rattle.control.specs.Control.{label}
@@ -42,11 +42,6 @@ place-told l m =
 -- the place that reference n is labelled with
 unfoldable pub marked : Layout → List ℕ → ℕ → Option Place
 marked l w n = choose (eqb (label w n) 0) none (some (place-told l (label w n)))
-
--- the place that a reference has in a list of labels
-unfoldable pub lookup : ℕ → List Label → Option Place
-lookup n [] = none
-lookup n (m ∷ ms) = choose (eqb n (m .reference)) (some (m .place)) (lookup n ms)
 
 unfoldable pub first-of : Option Place → Option Place → Option Place
 first-of (some v) y = some v

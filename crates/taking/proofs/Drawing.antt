@@ -16,7 +16,7 @@ use Rattle.report.specs.Process.{Event, τ, ✓, Address, Split, choice, togeth
 use Rattle.report.specs.Process.{internal, split, sequence, Ω, ⊥′}
 use Rattle.report.specs.Track.{Label, Pair, pair, At, Outcome, Entered, labelled, prefixed, first-eval}
 use Rattle.report.specs.Track.{inside, around, beside, right-eval, right-inside, jointly, carried, started}
-use Rattle.report.specs.Track.{leads, parents, ended}
+use Rattle.report.specs.Track.{leads, parents, ended, lookup}
 use Rattle.report.specs.Tracking.{Shows, passes, hides-τ, hides-✓, Tracks, process-call, prefixing, skip}
 use Rattle.report.specs.Tracking.{stop, internal-choice-1, internal-choice-2, external-choice-1}
 use Rattle.report.specs.Tracking.{external-choice-2, external-choice-3, external-choice-4}
@@ -26,7 +26,7 @@ use Rattle.report.specs.Tracking.{synchronized-parallelism-3, synchronized-para
 use Rattle.report.proofs.Climbing.{Up}
 use Rattle.report.proofs.Marked.{one-same, past, past-drawn, next-past, Unentered, By-side, Fit, side-fit}
 use Rattle.report.proofs.Holding.{held, side-held, split-held, unentered-held}
-use Rattle.stepping.specs.Views.{lookup, first-of}
+use Rattle.stepping.specs.Views.{first-of}
 use Rattle.taking.proofs.TrackLoops.{Each}
 use Rattle.taking.proofs.Writing.{lookup-append}
 

@@ -10,7 +10,7 @@ use native.Mathlib.Nat.{add-zero}
 use lib.ListN.{length}
 use Rattle.places.specs.Place.{Place}
 use Rattle.report.specs.Process.{Address, together, Process, split, Ω, cells}
-use Rattle.report.specs.Track.{Pair, parents, ended}
+use Rattle.report.specs.Track.{Pair, parents, ended, lookup}
 use Rattle.report.specs.Step.{Stepped}
 use Rattle.report.proofs.Climbing.{Up}
 use Rattle.report.proofs.Holding.{held}
@@ -22,7 +22,7 @@ use Rattle.control.specs.declared.Event.the-variants.{Tick}
 use Rattle.weighing.specs.Sums.{capped}
 use Rattle.weighing.proofs.Told.{told}
 use Rattle.stepping.specs.Marks.{Kept, joined, drawn, standing}
-use Rattle.stepping.specs.Views.{arcs-of, lookup}
+use Rattle.stepping.specs.Views.{arcs-of}
 use Rattle.stepping.specs.Leaves.{Done, with-words, come, end}
 use Rattle.taking.proofs.TrackLaws.{arc}
 use Rattle.taking.proofs.TrackLoops.{capped-below, Told, told-count, told-whole, told-keeps-nodes}

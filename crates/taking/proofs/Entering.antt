@@ -16,7 +16,7 @@ use Rattle.lines.specs.Line.{choose}
 use Rattle.places.specs.Place.{Place}
 use Rattle.report.specs.Process.{Split, choice, together, Process, leaf, prefix, internal, split, sequence, Ω}
 use Rattle.report.specs.Process.{⊥′, cells}
-use Rattle.report.specs.Track.{Entered, first-eval}
+use Rattle.report.specs.Track.{Entered, first-eval, lookup}
 use Rattle.report.specs.Track as Track
 use Rattle.report.proofs.Marked.{one, one-same, past-most, past-drawn, side-fit}
 use Rattle.report.proofs.Holding.{side-held}
@@ -29,7 +29,6 @@ use Rattle.control.proofs.Framed.{Same, Lasting, lasting-then, words-lasting, s
 use Rattle.control.proofs.Framed.{holds-framed}
 use Rattle.stepping.specs.Marks.{one-arc, drawn, standing, with-arc}
 use Rattle.stepping.specs.Sides.{side-tally, side-nodes, side-track}
-use Rattle.stepping.specs.Views.{lookup}
 use Rattle.taking.proofs.TrackLoops.{capped-below}
 use Rattle.taking.proofs.NodeViews.{side-nodes-begun, side-nodes-gone, side-nodes-there}
 use Rattle.taking.proofs.NodeViews.{side-nodes-elsewhere, side-nodes-same, marked-same}

@@ -24,7 +24,7 @@ use Rattle.control.specs.Control.{Holds}
 use Rattle.control.proofs.Framed.{Lasting, stands-framed, untouched-told}
 use Rattle.stepping.specs.Marks.{one-node}
 use Rattle.stepping.specs.Sides.{entered}
-use Rattle.stepping.specs.Views.{marked, lookup, first-of}
+use Rattle.stepping.specs.Views.{marked, first-of}
 use Rattle.taking.proofs.TrackLoops.{capped-below}
 use Rattle.taking.proofs.NodeViews.{entered-whole, entered-there, entered-elsewhere, entered-same}
 use Rattle.taking.proofs.NodeViews.{entered-lasting, own-told, own-some, marked-some, marked-none}
@@ -32,6 +32,7 @@ use Rattle.taking.proofs.NodeViews.{marked-same}
 use Rattle.taking.proofs.Writing.{Words, Writes, first-none}
 use Rattle.taking.proofs.Going.{Sound, Ready}
 use Rattle.taking.proofs.Parts.{one-label, Formed, untouched-formed, single-cell}
+use Rattle.report.specs.Track.{lookup}
 
 -- the sides of a split, with their numbers, and a split told by a side and the other
 pub data Side : Type 0 where

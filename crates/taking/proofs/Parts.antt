@@ -21,7 +21,7 @@ use Rattle.terms.specs.Term as Term
 use Rattle.places.specs.Place.{Place}
 use Rattle.report.specs.Process.{Process, leaf, prefix, internal, split, sequence, Ω, ⊥′, joined, untouched}
 use Rattle.report.specs.Process.{cells}
-use Rattle.report.specs.Track.{Pair, pair}
+use Rattle.report.specs.Track.{Pair, pair, lookup}
 use Rattle.report.proofs.Climbing.{Up}
 use Rattle.plans.specs.Plan.{Layout, kind, operand, second, around, first-around, second-around, Leads, Planned}
 use Rattle.plans.proofs.Laws.{word-out}
@@ -33,7 +33,7 @@ use Rattle.control.proofs.Framed.{Same, Lasting, words-lasting, untouched-told}
 use Rattle.weighing.specs.Sums.{capped}
 use Rattle.stepping.specs.Marks.{one-node, one-arc, one-met, drawn, labelled, standing, with-arc}
 use Rattle.stepping.specs.Marks.{with-met}
-use Rattle.stepping.specs.Views.{arcs-of, event-nodes, marked, place-told, lookup, first-of}
+use Rattle.stepping.specs.Views.{arcs-of, event-nodes, marked, place-told, first-of}
 use Rattle.taking.proofs.TrackLaws.{arc-added, arc-keeps-meetings, arc-keeps-nodes, arc-length}
 use Rattle.taking.proofs.TrackLaws.{met-added, met-keeps-arcs, met-keeps-meetings, met-length}
 use Rattle.taking.proofs.TrackLoops.{capped-below}

@@ -17,10 +17,11 @@ use Rattle.control.specs.Control.{label, term, frame, Rests, Follows, Holds}
 use Rattle.control.proofs.NodeLaws.{Whole, put-same, put-other, put-whole, put-length}
 use Rattle.control.proofs.Framed.{Same, around-lasting, put-lasting}
 use Rattle.control.proofs.Chains.{around-inside}
-use Rattle.stepping.specs.Views.{marked, lookup}
+use Rattle.stepping.specs.Views.{marked}
 use Rattle.taking.proofs.NodeViews.{marked-same}
 use Rattle.taking.proofs.Writing.{Words, Writes, nothing, first-none}
 use Rattle.taking.proofs.Going.{Sound, Ready}
+use Rattle.report.specs.Track.{lookup}
 
 -- what a plan has around a term that it holds
 pub planned-around : (l : Layout) (p x : List ℕ) (i o : ℕ) (t : Term) → Planned l p x i o t → around p i ≡ o

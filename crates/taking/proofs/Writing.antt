@@ -11,10 +11,10 @@ use lib.ListN.{length, length-append}
 use lib.Dec.{eqb}
 use Rattle.lines.specs.Line.{choose}
 use Rattle.places.specs.Place.{Place}
-use Rattle.report.specs.Track.{Label, Pair}
+use Rattle.report.specs.Track.{Label, Pair, lookup}
 use Rattle.plans.specs.Plan.{Layout}
 use Rattle.control.proofs.Framed.{Same, Lasts, Lasting}
-use Rattle.stepping.specs.Views.{arcs-of, meetings-of, event-nodes, marked, lookup, first-of}
+use Rattle.stepping.specs.Views.{arcs-of, meetings-of, event-nodes, marked, first-of}
 use Rattle.stepping.specs.declared.Tally.{Tally}
 
 -- the words of a run, with how far it has come
