@@ -1,0 +1,1 @@
+// Saved tracks, as graphs and as texts: definitions and laws alone.
