@@ -117,9 +117,9 @@ module _ (l : Layout) (p x : List ℕ) where
     pub planned-shallow : (t : Term) (i o : ℕ) → Planned l p x i o t → Shallow (length (l .place i .path)) t
     planned-shallow (Term.leaf q) i o h = low i
     planned-shallow (Term.prefix e t) i o h =
-        let more = longer (l .place (suc i)) (l .place i) 2 (h .4) in
+        let more = longer (l .place (suc i)) (l .place i) 2 (h .5) in
         let deep : length (l .place i .path) + 1 ≤ path-room = omega (arith, low (suc i)) in
-        (deep, rw (← more) (planned-shallow t (suc i) o (h .5)))
+        (deep, rw (← more) (planned-shallow t (suc i) o (h .6)))
     planned-shallow (Term.binary q t u) i o h =
         let more = longer (l .place (suc i)) (l .place i) 1 (h .3) in
         let more-right = longer (l .place (second p i)) (l .place i) 2 (h .4) in (

@@ -20,7 +20,7 @@ use Rattle.tables.specs.Table.{Sofar, judged, accepted}
 use Rattle.tables.specs.Columns.{kinds, payloads, owners, afters, roots}
 use Rattle.terms.specs.Term.{Term, leaf, prefix, binary, size, Shallow, Holds, definitions-of}
 use Rattle.terms.proofs.Trees.{leaf-subterms, operator-subterms, each-at, checked-trees}
-use Rattle.terms.proofs.Held.{holds-behind, checked-holds}
+use Rattle.terms.proofs.Held.{size-some, holds-behind, checked-holds}
 use Rattle.places.specs.Place.{path-in, term-at, IsPrefix, PrefixAt, event-path, left-path}
 use Rattle.places.specs.Place.{Literal, own, event, shifted, event-end, literal-at}
 use Rattle.places.specs.Code.{Columns, look, next, digit, below, descended, path-of, with-event, event-of}
@@ -33,7 +33,7 @@ use Rattle.places.proofs.Sides.{Side, only, first, second, by-number, p
 use Rattle.places.proofs.Sides.{side-first, side-inside, side-at, side-literal, side-shallow}
 use Rattle.places.proofs.Sides.{prefix-inside}
 use Rattle.places.proofs.Ways.{look-in, step-only, step-first, step-second, descended-here}
-use Rattle.places.proofs.Ways.{descended-step}
+use Rattle.places.proofs.Ways.{descended-short, descended-leaf, descended-step}
 use Rattle.places.proofs.Literals.{Places}
 
 -- literals numbered from another start
@@ -253,6 +253,29 @@ module _ (ks ps xs : List ℕ) where
       by-number Leads (λ t i f r b l. rw (path-root t) (descended-here f ks xs i (i + 0) (omega arith)))
       leads-inward t n h i f r b l
 
+  -- and no path leads to a number behind the term
+  pub descended-past : (t : Term) (i j f : ℕ) → Holds ks ps xs i t → i + size t ≤ 1024 → i + size t ≤ j
+      → descended f ks xs i j ≡ none
+  unfolding size below
+  descended-past (leaf l) i j f h b past =
+      let kind = look-in 1024 ks i (omega arith) in
+      descended-leaf f ks xs i j (λ e. omega arith) (ap subterms (sym kind ∙ h .0) ∙ leaf-subterms l)
+  descended-past (prefix e t) i j zero h b past = descended-short 0 ks xs i j (λ q. omega arith) refl
+  descended-past (prefix e t) i j (suc f) h b past =
+      let kind = look-in 1024 ks i (omega arith) in
+      let one : subterms (look 1024 ks i) ≡ 1 = ap subterms (sym kind ∙ h .0) ∙ prefix-subterms in
+      let step = step-only (subterms (look 1024 ks i)) xs i j (λ z. omega arith) in
+      descended-step _ ks xs i j (λ q. omega arith) f _ 2 _ refl refl (λ z. omega arith) (step .1) (step .0)
+      ∙ rw (descended-past t (i + 1) j f (side-held i (only e t) h) (omega arith) (omega arith))
+  descended-past (binary o t u) i j zero h b past = descended-short 0 ks xs i j (λ q. omega arith) refl
+  descended-past (binary o t u) i j (suc f) h b past =
+      let kind = look-in 1024 ks i (omega arith) in
+      let two : subterms (look 1024 ks i) ≡ 2 = ap subterms (sym kind ∙ h .0) ∙ operator-subterms o in
+      let next-is = second-at i t (h .3) (omega (arith, size-some u)) in
+      let step = step-second _ xs i j two _ next-is (omega arith) in
+      descended-step _ ks xs i j (λ q. omega arith) f _ 2 _ refl refl (λ z. omega arith) (step .1) (step .0)
+      ∙ rw (descended-past u (i + (1 + size t)) j f (side-held i (second o t u) h) (omega arith) (omega arith))
+
 -- the number of a definition's root
 abbrev pub root : Columns → ℕ → ℕ
 root c k = look 64 (c .roots) k
@@ -344,6 +367,26 @@ module _ (c : Columns) (ts : List Term) (all : Roots c ts) (k : ℕ) (t : Term) 
   pub event-nowhere : n < size t → (PrefixAt t n → ⊥) → answer c (Event (root c k + n)) ≡ Nowhere
   unfolding answer told literal-path event-of
   event-nowhere h none-there = simp (ne-eqb _ Kind.prefix (λ e. none-there (prefix-there h .0 e)))
+
+-- a number behind definition k that the columns say is of k is found nowhere
+module _ (c : Columns) (k : ℕ) (t : Term) (there : Defined c k t) (j : ℕ)
+    (owner : look 1024 (c .owners) j ≡ k) (past : root c k + size t ≤ j) where
+  path-past : (most : ℕ) → path-of most c j ≡ none
+  unfolding path-of
+  path-past most =
+      rw owner (descended-past _ (there .payloads) _ t _ j most (there .held) (there .fits) past)
+
+  pub own-past : answer c (Own j) ≡ Nowhere
+  unfolding answer told literal-path
+  own-past = rw (path-past 64)
+
+  pub event-past : answer c (Event j) ≡ Nowhere
+  unfolding answer told literal-path event-of with-event
+  event-past = rw (path-past 63) (go (eqb (look 1024 (c .kinds) j) Kind.prefix))
+    where
+      go : (b : Bool) → told (literal-definition c (Event j)) (choose b none none) ≡ Nowhere
+      go true = refl
+      go false = refl
 
 -- two outcomes that the promise of `place` allows, of one literal, columns and array, are equal
 pub place-settled : (c : Columns) (l : Asked) (p : List ℕ) (x₁ x₂ : Placed) (p₁ p₂ : List ℕ)

@@ -57,7 +57,7 @@ set-under l i j x (w ∷ ws) h =
     set-under (set l j w) i (suc j) x ws (omega arith)
     ∙ ap (λ (m : List ℕ). sets m (suc j) ws) (set-comm l j i w x (λ e. omega arith))
 
--- the way is at its end, or takes one step more
+-- the way is at its end, or ends nowhere, or takes one step more
 module _ (f : ℕ) (ks xs : List ℕ) (i j : ℕ) where
   pub descended-here : i ≡ j → descended f ks xs i j ≡ some []
   unfolding descended
@@ -67,12 +67,25 @@ module _ (f : ℕ) (ks xs : List ℕ) (i j : ℕ) where
       go zero = simp (eq-eqb i j e)
       go (suc f) = simp (eq-eqb i j e)
 
-  module _ (away : i ≡ j → ⊥) (g n x m : ℕ) (more : f ≡ suc g) (count : n ≡ subterms (look 1024 ks i))
-      (some-of : n ≡ 0 → ⊥) (x-is : x ≡ digit n xs i j) (m-is : m ≡ next n xs i j) where
-    pub descended-step : descended f ks xs i j ≡ below x (descended g ks xs m j)
+  module _ (away : i ≡ j → ⊥) where
+    pub descended-short : f ≡ 0 → descended f ks xs i j ≡ none
     unfolding descended
-    descended-step = rw (more, x-is, m-is, count)
-        (simp (ne-eqb i j away, ne-eqb (subterms (look 1024 ks i)) 0 (λ z. some-of (count ∙ z))))
+    descended-short e = rw e (simp (ne-eqb i j away))
+
+    pub descended-leaf : subterms (look 1024 ks i) ≡ 0 → descended f ks xs i j ≡ none
+    unfolding descended
+    descended-leaf e = go f
+      where
+        go : (f : ℕ) → descended f ks xs i j ≡ none
+        go zero = simp (ne-eqb i j away)
+        go (suc f) = simp (ne-eqb i j away, eq-eqb (subterms (look 1024 ks i)) 0 e)
+
+    module _ (g n x m : ℕ) (more : f ≡ suc g) (count : n ≡ subterms (look 1024 ks i)) (some-of : n ≡ 0 → ⊥)
+        (x-is : x ≡ digit n xs i j) (m-is : m ≡ next n xs i j) where
+      pub descended-step : descended f ks xs i j ≡ below x (descended g ks xs m j)
+      unfolding descended
+      descended-step = rw (more, x-is, m-is, count)
+          (simp (ne-eqb i j away, ne-eqb (subterms (look 1024 ks i)) 0 (λ z. some-of (count ∙ z))))
 
 -- where the way ends, and what is written
 abbrev pub Leaves : ℕ → List ℕ → Option (List ℕ) → Reached → List ℕ → Type 0
@@ -85,16 +98,12 @@ module _ (d : ℕ) (p : List ℕ) (f : ℕ) (ks xs : List ℕ) (i j : ℕ) where
 
   module _ (away : i ≡ j → ⊥) where
     pub way-short : f ≡ 0 → Leaves d p (descended f ks xs i j) Astray p
-    unfolding descended reached digits
-    way-short e = rw e (simp (ne-eqb i j away) (refl, refl))
+    unfolding reached digits
+    way-short e = rw (descended-short f ks xs i j away e) (refl, refl)
 
     pub way-leaf : subterms (look 1024 ks i) ≡ 0 → Leaves d p (descended f ks xs i j) Astray p
-    unfolding descended reached digits
-    way-leaf e = go f
-      where
-        go : (f : ℕ) → Leaves d p (descended f ks xs i j) Astray p
-        go zero = simp (ne-eqb i j away) (refl, refl)
-        go (suc f) = simp (ne-eqb i j away, eq-eqb (subterms (look 1024 ks i)) 0 e) (refl, refl)
+    unfolding reached digits
+    way-leaf e = rw (descended-leaf f ks xs i j away e) (refl, refl)
 
     module _ (g n x m : ℕ) (more : f ≡ suc g) (count : n ≡ subterms (look 1024 ks i)) (some-of : n ≡ 0 → ⊥)
         (x-is : x ≡ digit n xs i j) (m-is : m ≡ next n xs i j) where

@@ -1,5 +1,6 @@
 -- Where a tree's terms stand: all below one place by the tree's own paths, so that each subterm stands one
--- digit below its term. In the layout of a checked table every definition stands so. Assumes nothing.
+-- digit below its term, and each event below its prefix. In the layout of a checked table every definition
+-- stands so. Assumes nothing.
 use Prim.Native.Nat.{ℕ, _+_, _<_}
 use mathlib.Core.Path.{_≡_, sym, ap, _∙_}
 use mathlib.Core.List.{List, [], _∷_, _++_, append-nil, append-assoc}
@@ -9,17 +10,18 @@ use native.Mathlib.Nat.{add-zero, add-assoc}
 use lib.ListN.{getElem?}
 use Rattle.frames.specs.TableFrame.{definition-room}
 use Rattle.tables.specs.Table.{Sofar, accepted, judged}
-use Rattle.tables.specs.Columns.{kinds, owners, afters, roots}
-use Rattle.terms.specs.Term.{Term, size, definitions-of}
+use Rattle.tables.specs.Columns.{roots}
+use Rattle.terms.specs.Term.{Term, prefix, size, definitions-of}
 use Rattle.terms.proofs.Held.{size-some}
-use Rattle.places.specs.Place.{Place, path-in}
-use Rattle.places.specs.Code.{look, digits, literal-definition, told, answer, columns}
-use Rattle.places.specs.declared.Literal.the-variants.{Own}
-use Rattle.places.proofs.Sides.{Side, side-inside, side-at, path-root}
-use Rattle.places.proofs.Laws.{own-answered, checked-roots}
+use Rattle.places.specs.Place.{Place, path-in, term-at, PrefixAt, event-path}
+use Rattle.places.specs.Code.{Columns, look, literal-definition, told, answer}
+use Rattle.places.specs.declared.Literal.{Literal}
+use Rattle.places.specs.declared.Literal.the-variants.{Own, Event}
+use Rattle.places.proofs.Sides.{Side, side-inside, side-at, path-root, prefix-inside}
+use Rattle.places.proofs.Laws.{Answers, own-answered, event-answered, checked-roots}
 use Rattle.report.specs.Process.{below}
 use Rattle.plans.specs.Plan.{Layout}
-use Rattle.plans.specs.Laid.{layout}
+use Rattle.plans.specs.Laid.{found, place-of, layout}
 
 -- a tree's numbers stand at the paths below w in definition d
 abbrev pub Sited : Layout → ℕ → ℕ → List ℕ → Term → Type 0
@@ -43,14 +45,48 @@ sited-below {T} {t} {x} {k} l i d w side s =
     sited-root l (i + k) d (w ++ (x ∷ [])) t (sited-side l i d w side s)
     ∙ ap (λ (q : Place). below q x) (sym (sited-root l i d w T s))
 
--- a definition's tree stands in the layout of its table from the empty path on
-pub definition-sited : (text : List ℕ) (s : Sofar) → judged text ≡ accepted s
-    → (k : ℕ) (t : Term) → getElem? (definitions-of s) k ≡ some t
-    → Sited (layout s) (look definition-room (roots s) k) k [] t
-unfolding layout answer told digits
-definition-sited text s q k t e m h =
-    let c = columns (kinds s) (owners s) (afters s) (roots s) in
-    let a = own-answered c (definitions-of s) (checked-roots text s q) k t e m h in
-    let at-k = rw (a .1) at (a .0) in
-    let own : literal-definition c (Own (look definition-room (roots s) k + m)) ≡ k = cc in
-    rw (own, a .1)
+-- a tree's events stand one digit below their prefixes
+abbrev pub Evented : Layout → ℕ → Term → Type 0
+Evented l i t = (m : ℕ) → PrefixAt t m → l .event (i + m) ≡ below (l .place (i + m)) 1
+
+pub evented-root : (l : Layout) (i e : ℕ) (t : Term) → Evented l i (prefix e t)
+    → l .event i ≡ below (l .place i) 1
+unfolding term-at
+evented-root l i e t s = rw (add-zero i) at (s 0 tt)
+
+pub evented-side : {T t : Term} {x k : ℕ} (l : Layout) (i : ℕ) → Side T x k t → Evented l i T
+    → Evented l (i + k) t
+evented-side {t} {x} {k} l i side s m p =
+    rw (add-assoc i k m) (s (k + m) (rw (side-at m side (prefix-inside t m p) .1) p))
+
+-- a literal's place is the one that it is answered with
+answered-place : (c : Columns) (a : Literal) (k : ℕ) (w : List ℕ) → Answers c a k w
+    → place-of c a ≡ record { definition = k; path = w }
+unfolding place-of found answer told
+answered-place c a k w h =
+    let at-k = rw (h .1) at (h .0) in
+    let own : literal-definition c a ≡ k = cc in
+    rw (own, h .1)
+
+module _ (text : List ℕ) (s : Sofar) (q : judged text ≡ accepted s) (k : ℕ) (t : Term)
+    (e : getElem? (definitions-of s) k ≡ some t) where
+  -- a definition's tree stands in the layout of its table from the empty path on
+  pub definition-sited : Sited (layout s) (look definition-room (roots s) k) k [] t
+  unfolding layout
+  definition-sited m h =
+      answered-place _ (Own (look definition-room (roots s) k + m)) k (path-in t m)
+      (own-answered _ (definitions-of s) (checked-roots text s q) k t e m h)
+
+  -- and so do its events
+  pub event-of-definition : (m : ℕ) → PrefixAt t m
+      → layout s .event (look definition-room (roots s) k + m)
+      ≡ record { definition = k; path = event-path (path-in t m) }
+  unfolding layout
+  event-of-definition m p =
+      answered-place _ (Event (look definition-room (roots s) k + m)) k (event-path (path-in t m))
+      (event-answered _ (definitions-of s) (checked-roots text s q) k t e m p)
+
+  pub definition-evented : Evented (layout s) (look definition-room (roots s) k) t
+  definition-evented m p =
+      event-of-definition m p
+      ∙ ap (λ (v : Place). below v 1) (sym (definition-sited m (prefix-inside t m p)))

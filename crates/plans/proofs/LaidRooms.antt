@@ -20,7 +20,8 @@ use Rattle.terms.specs.Term.{Term, starts, definitions-of}
 use Rattle.terms.proofs.Trees.{checked-trees}
 use Rattle.places.specs.Code.{look, below, descended, digits, path-of, literal-path}
 use Rattle.plans.specs.Plan.{word, around}
-use Rattle.plans.specs.Laid.{put, own-words, through, inward, told, laid, turns, laid-out, layout}
+use Rattle.plans.specs.Laid.{put, own-words, through, inward, told, laid, turns, laid-out, found}
+use Rattle.plans.specs.Laid.{place-of, layout}
 use Rattle.plans.proofs.LaidTurn.{at, put-other}
 use Rattle.plans.proofs.LaidTable.{root-is}
 
@@ -46,10 +47,15 @@ descended-short (suc f) ks xs i j =
     go false true o h = omega arith
     go false false o h = h
 
+found-short : (d f : ℕ) (o : Option (List ℕ)) → length (digits o) ≤ f → length (found d o .path) ≤ f
+unfolding found digits
+found-short d f none h = h
+found-short d f (some w) h = h
+
 -- no term's path is longer than there is room for
 pub layout-low : (s : Sofar) (i : ℕ) → length (layout s .place i .path) ≤ path-room
-unfolding layout literal-path path-of
-layout-low s i = descended-short path-room _ _ _ i
+unfolding layout place-of literal-path path-of
+layout-low s i = found-short _ path-room _ (descended-short path-room _ _ _ i)
 
 -- every fourth word is 0 or one more than the number of a term
 abbrev Numbered : List ℕ → Type 0

@@ -19,7 +19,7 @@ use Rattle.plans.specs.Plan.{Planned}
 use Rattle.plans.specs.Plan as Plan
 use Rattle.plans.specs.Laid.{turns, laid-out, layout}
 use Rattle.plans.proofs.Laid.{turns-all}
-use Rattle.plans.proofs.LaidPlaces.{sited-root, definition-sited}
+use Rattle.plans.proofs.LaidPlaces.{sited-root, definition-sited, definition-evented}
 use Rattle.plans.proofs.LaidTrees.{tree-planned, forest-at}
 
 -- a definition of the list has a root
@@ -80,7 +80,7 @@ module _ (text : List ℕ) (s : Sofar) (q : judged text ≡ accepted s) where
       let within = each-at (s .definitions) (s .events) (definitions-of s) (table .each) k t e .1 in
       tree-planned (kinds s) (payloads s) (afters s) (roots s) (layout s) (λ n. refl) (s .definitions)
       (s .events) (table .few-events) (length (s .terms)) t r 0 k [] (rw same at (stands .holds), omega arith)
-      within (definition-sited text s q k t e) (begun .0) (begun .1)
+      within (definition-sited text s q k t e) (definition-evented text s q k t e) (begun .0) (begun .1)
 
 -- the plan that is laid out from a checked table's columns holds its definitions, at the places that
 -- `places::place` tells

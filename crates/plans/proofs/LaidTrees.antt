@@ -25,7 +25,8 @@ use Rattle.plans.proofs.Laws.{word-in}
 use Rattle.plans.proofs.Laid.{operand-prefix, operand-call, second-two, second-none}
 use Rattle.plans.proofs.LaidTurn.{at, laid-keeps, laid-kind, laid-operand, laid-second}
 use Rattle.plans.proofs.LaidTurn.{first-told, second-told, turns-length}
-use Rattle.plans.proofs.LaidPlaces.{Sited, sited-side, sited-below}
+use Rattle.plans.proofs.LaidPlaces.{Sited, sited-side, sited-below, Evented, evented-root}
+use Rattle.plans.proofs.LaidPlaces.{evented-side}
 
 -- word number p of a plan is none of those that the turns of n terms, from term i on, put
 data Apart (i n p : ℕ) : Type 0 where
@@ -218,14 +219,14 @@ module _ (ks ps xs rs : List ℕ) where
   module _ (l : Layout) (led : (n : ℕ) → l .root n ≡ look definition-room rs n) (ds es : ℕ)
       (few : es ≤ event-room) (n : ℕ) where
     pub tree-planned : (t : Term) (i o d : ℕ) (w : List ℕ) → Tree i t → Within ds es t → Sited l i d w t
-        → at (after i) (4 * i + 3) ≡ o → Settled n i (size t) → Planned l (after n) ps i o t
+        → Evented l i t → at (after i) (4 * i + 3) ≡ o → Settled n i (size t) → Planned l (after n) ps i o t
     unfolding size
-    tree-planned (leaf f) i o d w h within sited around kept =
+    tree-planned (leaf f) i o d w h within sited evented around kept =
         let own = words n o (leaf f) i h around kept in
         let is : operand-of (getD ks i 0) (getD ps i 0) rs ≡ operand-of (leaf-kind f) (leaf-payload f) rs =
         rw (h .0 .0, h .0 .1) in
         (own .kind ∙ h .0 .0, own .around, leads l (after n) i f led (own .operand ∙ is))
-    tree-planned (prefix e t) i o d w h within sited around kept =
+    tree-planned (prefix e t) i o d w h within sited evented around kept =
         let own = words n o (prefix e t) i h around kept in
         let inner = tree-only i e t h in
         let any = size-some t in
@@ -240,12 +241,14 @@ module _ (ks ps xs rs : List ℕ) where
           own .around,
           own .operand ∙ sym (operand-prefix (getD ks i 0) (getD ps i 0) rs (h .0 .0)) ∙ event,
           omega arith,
+          evented-root l i e t evented,
           rw add-one at (sited-below l i d w (only e t) sited),
           tree-planned t (suc i) o d (w ++ (2 ∷ [])) inner (within .1)
-              (rw add-one at (sited-side l i d w (only e t) sited)) told
+              (rw add-one at (sited-side l i d w (only e t) sited))
+              (rw add-one at (evented-side l i (only e t) evented)) told
               (λ p from to. rw next at (kept p (omega arith) (omega arith))),
         )
-    tree-planned (binary q t u) i o d w h within sited around kept =
+    tree-planned (binary q t u) i o d w h within sited evented around kept =
         let own = words n o (binary q t u) i h around kept in
         let any = size-some t in
         let more = size-some u in
@@ -268,11 +271,13 @@ module _ (ks ps xs rs : List ℕ) where
           rw add-one at (sited-below l i d w (first q t u) sited),
           rw is (rw there at (sited-below l i d w (second q t u) sited)),
           tree-planned t (suc i) (first-around q i o) d (w ++ (1 ∷ [])) (tree-first i q t u h) (within .1 .0)
-              (rw add-one at (sited-side l i d w (first q t u) sited)) told
+              (rw add-one at (sited-side l i d w (first q t u) sited))
+              (rw add-one at (evented-side l i (first q t u) evented)) told
               (λ p from to. (rw next at (kept p (omega arith) (omega arith)))
               ∙ tree-keeps u m p (tree-second i q t u h) (before to)),
           rw is (tree-planned u m (second-around q o) d (w ++ (2 ∷ [])) (tree-second i q t u h) (within .1 .1)
-              (rw there at (sited-side l i d w (second q t u) sited)) told-second
+              (rw there at (sited-side l i d w (second q t u) sited))
+              (rw there at (evented-side l i (second q t u) evented)) told-second
               (λ p from to. rw next at (kept p (omega arith) (omega arith)))),
         )
 

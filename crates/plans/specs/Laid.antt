@@ -2,7 +2,8 @@
 -- the word `around` of each of its subterms; a definition's root keeps the 0 that the plan began with.
 use Prim.Native.Nat.{ℕ, zero, suc, _+_, _*_, _%_, min}
 use mathlib.Core.Bool.{_||_}
-use mathlib.Core.List.{List}
+use mathlib.Core.List.{List, []}
+use mathlib.Core.Option.{Option, none, some}
 use lib.ListN.{getD, set, replicate}
 use lib.Dec.{ltb, eqb}
 use Rattle.lines.specs.Line.{choose}
@@ -11,8 +12,10 @@ use Rattle.frames.specs.Kind as Kind
 use Rattle.frames.specs.Kind.{subterms}
 use Rattle.tables.specs.Table.{Sofar}
 use Rattle.tables.specs.Columns.{kinds, owners, afters, roots}
-use Rattle.places.specs.Code.{look, digits, literal-path, literal-definition, columns}
-use Rattle.places.specs.declared.Literal.the-variants.{Own}
+use Rattle.places.specs.Place.{Place}
+use Rattle.places.specs.Code.{Columns, look, literal-path, literal-definition, columns}
+use Rattle.places.specs.declared.Literal.{Literal}
+use Rattle.places.specs.declared.Literal.the-variants.{Own, Event}
 use Rattle.plans.specs.Plan.{around, Layout}
 
 -- word k of term t put; nothing where there is no such term
@@ -63,12 +66,23 @@ turns (suc i) ks ps xs rs =
 unfoldable pub laid-out : ℕ → List ℕ → List ℕ → List ℕ → List ℕ → List ℕ
 laid-out n = turns (min n term-room)
 
--- where a table's terms stand: at the places that `places::place` tells of their own literals
+-- the place of what is no literal: no table has that definition
+abbrev pub nowhere : Place
+nowhere = record { definition = definition-room; path = [] }
+
+-- the place in definition d by the path that there may be
+unfoldable pub found : ℕ → Option (List ℕ) → Place
+found d none = nowhere
+found d (some w) = record { definition = d; path = w }
+
+-- the place that `places::place` tells of a literal
+unfoldable pub place-of : Columns → Literal → Place
+place-of c a = found (literal-definition c a) (literal-path c a)
+
+-- where a table's terms stand: at the places of their own literals, and their events at those of theirs
 unfoldable pub layout : Sofar → Layout
 layout s = record {
-  place = λ i. record {
-    definition = literal-definition (columns (kinds s) (owners s) (afters s) (roots s)) (Own i);
-    path = digits (literal-path (columns (kinds s) (owners s) (afters s) (roots s)) (Own i));
-  };
+  place = λ i. place-of (columns (kinds s) (owners s) (afters s) (roots s)) (Own i);
+  event = λ i. place-of (columns (kinds s) (owners s) (afters s) (roots s)) (Event i);
   root = look definition-room (roots s);
 }

@@ -31,9 +31,11 @@ second = word 2
 abbrev pub around : List ℕ → ℕ → ℕ
 around = word 3
 
--- where a table's terms stand: the place of each number, and the root of each definition
+-- where a table's terms stand: the place of each number, the place of each prefix's event, and the root of each
+-- definition
 pub record Layout : Type 0 where
   pub place : ℕ → Place
+  pub event : ℕ → Place
   pub root : ℕ → ℕ
 
 -- one more than the sequence around an operator's subterms, where i is its number and o tells of its own
@@ -60,7 +62,8 @@ abbrev pub Planned : Layout → List ℕ → List ℕ → ℕ → ℕ → Term �
 Planned l w x i o (leaf f) = (kind w i ≡ leaf-kind f) × (around w i ≡ o) × Leads l w i f
 Planned l w x i o (prefix e t) =
     (kind w i ≡ Kind.prefix) × (around w i ≡ o) × (operand w i ≡ e) × (e < event-room)
-    × (l .place (suc i) ≡ below (l .place i) 2) × Planned l w x (suc i) o t
+    × (l .event i ≡ below (l .place i) 1) × (l .place (suc i) ≡ below (l .place i) 2)
+    × Planned l w x (suc i) o t
 Planned l w x i o (binary p t u) =
     (kind w i ≡ operator-kind p) × (around w i ≡ o) × (getD x i 0 ≡ operator-payload p)
     × (l .place (suc i) ≡ below (l .place i) 1) × (l .place (second w i) ≡ below (l .place i) 2)

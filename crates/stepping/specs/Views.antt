@@ -6,7 +6,6 @@ use mathlib.Core.Option.{Option, none, some}
 use lib.Dec.{eqb}
 use Rattle.lines.specs.Line.{choose}
 use Rattle.places.specs.Place.{Place, left-path}
-use Rattle.report.specs.Process.{below}
 use Rattle.report.specs.Track.{Pair, pair}
 use Rattle.plans.specs.Plan.{Layout}
 use Rattle.control.specs.Words.{track-word}
@@ -37,7 +36,7 @@ event-nodes g i (suc c) = event-node i g ∷ event-nodes g (suc i) c
 unfoldable pub place-told : Layout → ℕ → Place
 place-told l m =
     choose (eqb m 1) (record { definition = 0; path = left-path })
-    (choose (eqb (m % 2) 0) (l .place ((m - 2) / 2)) (below (l .place ((m - 3) / 2)) 1))
+    (choose (eqb (m % 2) 0) (l .place ((m - 2) / 2)) (l .event ((m - 3) / 2)))
 
 -- the place that reference n is labelled with
 unfoldable pub marked : Layout → List ℕ → ℕ → Option Place

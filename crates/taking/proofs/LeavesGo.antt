@@ -264,6 +264,7 @@ module _ (l : Layout) (p x : List ℕ) (count n b : ℕ) (P : Process) (ks : Lis
 
     -- a prefix: two labels, two arcs and an event node
     module _ (e : ℕ) (Q : Process) (come-to : Comes (prefixed e Q v (at-words n u)))
+        (event-place : l .event at-term ≡ below v 1)
         (there : Untouched l p x (u .nodes) (suc at-term) (around p at-term) Q) where
       part : Fits u (prefixed e Q v (at-words n u))
       unfolding prefixed
@@ -285,7 +286,7 @@ module _ (l : Layout) (p x : List ℕ) (count n b : ℕ) (P : Process) (ks : Lis
       unfolding prefixed
       first-writes = on-arc-writes l (λ j. held j n P) u clean-there n (event-mark at-term) (below v 1)
           drawn-there (omega (arith, part .fresh-fits)) (rests .bare) (event-small at-term)
-          (event-some at-term term-below) (event-told at-term term-below l ∙ ap (λ w. below w 1) place-is)
+          (event-some at-term term-below) (event-told at-term term-below l ∙ event-place)
           (omega (arith, part .nodes-fit)) (omega (arith, part .arcs-fit)) own-apart
 
       second-writes : Writes l (λ j. Marked.one j (u .tally .fresh)) first-to second-to
@@ -456,7 +457,8 @@ module _ (l : Layout) (p x : List ℕ) (count : ℕ) (ds : List ℕ) (ts : List 
       let form = formed (prefix v e Q) (ready .holds) in
       rw (form .1, form .2)
       (prefix-goes l p x count n b (prefix v e Q) ks u ready (ready .holds) (λ j. refl) v (form .0) a qs y fits
-      tells numbered at size (sym (from-at ds count at a from)) size-is e Q come-to (form .4) (form .3))
+      tells numbered at size (sym (from-at ds count at a from)) size-is e Q come-to (form .4) (form .5)
+      (form .3))
   leaf-goes (internal v P Q) [] low calls ready from come-to = absurd (not-none come-to)
   leaf-goes (internal v P Q) (one ∷ a) low calls ready from come-to =
       let r = ready .holds in

@@ -1,6 +1,6 @@
 -- What each word of each reference is after what a step writes: the words that it puts are the values, every
 -- other word is as before, and nothing that a labelled reference keeps changes. Each is some puts in a row. And
--- what marks tell: a literal's own mark its place, and an event's mark the place below it. Assumes nothing.
+-- what marks tell: a term's own mark the term's place, and an event's mark the event's. Assumes nothing.
 use Prim.Native.Nat.{ℕ, _+_, _-_, _/_, _%_, _≤_, _<_}
 use mathlib.Core.Path.{_≡_, refl, ap, sym, _∙_}
 use mathlib.Core.Bool.{Bool, true, false}
@@ -10,7 +10,6 @@ use native.Mathlib.Omega.{arith}
 use lib.Dec.{eqb, ltb}
 use borrow.Author.Tests.{eqb-true, eqb-false, eq-eqb, ne-eqb, le-ltb, ltb-false}
 use Rattle.lines.specs.Line.{choose}
-use Rattle.report.specs.Process.{below}
 use Rattle.plans.specs.Plan.{Layout}
 use Rattle.control.specs.Words.{reference-room, node, put}
 use Rattle.control.specs.Control.{label, state, term, frame, first-cells, second-cells, resting}
@@ -142,7 +141,7 @@ module _ (t : ℕ) (h : t < 1024) where
         let half : (m - 2) / 2 ≡ t = omega arith in
         rw own-is (simp (not-left, is-own, half))
 
-    pub event-told : place-told l (event-mark t) ≡ below (l .place t) 1
+    pub event-told : place-told l (event-mark t) ≡ l .event t
     unfolding place-told
     event-told =
         let m = t + t + 3 in

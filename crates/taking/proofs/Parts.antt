@@ -20,7 +20,7 @@ use Rattle.terms.specs.Term.{operator-payload}
 use Rattle.terms.specs.Term as Term
 use Rattle.places.specs.Place.{Place}
 use Rattle.report.specs.Process.{Process, leaf, prefix, internal, split, sequence, Ω, ⊥′, joined, untouched}
-use Rattle.report.specs.Process.{cells}
+use Rattle.report.specs.Process.{below, cells}
 use Rattle.report.specs.Track.{Pair, pair, lookup}
 use Rattle.report.proofs.Climbing.{Up}
 use Rattle.plans.specs.Plan.{Layout, kind, operand, second, around, first-around, second-around, Leads, Planned}
@@ -320,7 +320,7 @@ module _ (l : Layout) (p x w : List ℕ) (i o : ℕ) where
   Formed (leaf v f) = (l .place i ≡ v) × (kind p i ≡ leaf-kind f) × Leads l p i f
   Formed (prefix v e P) =
       (l .place i ≡ v) × (kind p i ≡ Kind.prefix) × (operand p i ≡ e) × (e < event-room)
-      × Untouched l p x w (suc i) o P
+      × (l .event i ≡ below v 1) × Untouched l p x w (suc i) o P
   Formed (internal v P Q) =
       (l .place i ≡ v) × (kind p i ≡ Kind.internal) × Untouched l p x w (suc i) o P
       × Untouched l p x w (second p i) o Q
@@ -343,7 +343,7 @@ module _ (l : Layout) (p x w : List ℕ) (i o : ℕ) where
   tree-formed : (t : Term) → Planned l p x i o t → Formed (untouched (l .place i) t)
   unfolding untouched joined operator-kind operator-payload split-kind split-set first-around second-around
   tree-formed (Term.leaf f) h = (refl, h .0, h .2)
-  tree-formed (Term.prefix e t) h = (refl, h .0, h .2, h .3, tree-there (suc i) o t (h .4) (h .5))
+  tree-formed (Term.prefix e t) h = (refl, h .0, h .2, h .3, h .4, tree-there (suc i) o t (h .5) (h .6))
   tree-formed (Term.binary Term.internal t u) h =
       (refl, h .0, tree-there (suc i) o t (h .3) (h .5), tree-there (second p i) o u (h .4) (h .6))
   tree-formed (Term.binary external t u) h =

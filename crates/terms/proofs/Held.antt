@@ -286,7 +286,7 @@ zeros-at zero k = refl
 zeros-at (suc n) zero = refl
 zeros-at (suc n) (suc k) = zeros-at n k
 
-column-at : (n : ℕ) (xs : List ℕ) (k : ℕ) → getD (column n xs) k 0 ≡ getD xs k 0
+pub column-at : (n : ℕ) (xs : List ℕ) (k : ℕ) → getD (column n xs) k 0 ≡ getD xs k 0
 unfolding column
 column-at n xs k = go xs k
   where

@@ -204,6 +204,10 @@ module _ (g : Graph) where
   abbrev pub reference-of : ℕ → ℕ
   reference-of k = getD (order g) k 0
 
+  -- the number of a reference
+  abbrev pub number-of : ℕ → ℕ
+  number-of n = number-in (order g) n
+
   -- number 0 is labelled where reference 0 is
   pub canonical-start : labelled g 0 ≡ labelled (canonical g) 0
   canonical-start = go (labelled g 0) refl
@@ -226,7 +230,7 @@ module _ (g : Graph) where
         let reached = order-closed g (reference-of k) m (element-among (order g) k p)
         (next-targets g (reference-of k) m ∙ targets-joined g (reference-of k) m ∙ rw (placed, joined)) in
         let (inside, is) = number-there (order g) m reached in
-        (number-in (order g) m, inside, is);
+        (number-of m, inside, is);
     start = canonical-start;
     first = λ e. let (rest, is) = order-begins g (canonical-start ∙ e) in (rw is (omega arith), rw is);
   }
@@ -265,38 +269,40 @@ module _ (g : Graph) where
   unfolding canonical
   canonical-meetings-below = rw (canonical-length g) (rows-up-below (meets (g .meetings)) (order g))
 
-  -- a number has at most one way on of a kind where its reference has
-  ways-few : (k : ℕ) (t u : ℕ → Bool) → ((m : ℕ) → k < count → m < count → u (reference-of m) ≡ t m)
-      → length (keep u (targets g (reference-of k))) ≤ 1 → length (keep t (targets (canonical g) k)) ≤ 1
-  unfolding canonical
-  ways-few k t u alike few =
-      few-alike (keep t (targets (canonical g) k))
-      (keep-distinct t _ (keep-distinct (labelled (canonical g)) _
-      (heads-distinct k _ canonical-arcs-ascend)))
-      (λ n m p q.
-      let (at-n, way-n) = found n p in
-      let (at-m, way-m) = found m q in
-      canonical-carries .apart n m at-n at-m (alike-few _ few (reference-of n) (reference-of m) way-n way-m))
-    where
-      found : (n : ℕ) → among n (keep t (targets (canonical g) k)) ≡ true
-          → (n < count) × (among (reference-of n) (keep u (targets g (reference-of k))) ≡ true)
-      found n e =
-          let way = sym (among-ways (canonical g) t k n) ∙ e in
-          let (kind, placed, joined) = way-parts (canonical g) t k n way in
-          let (at-k, at-n) = rows-inside (joins (g .arcs)) (order g) k n joined in
-          let arc = canonical-carries .arcs k n at-k at-n ∙ joined in
-          let place = ap present (canonical-carries .places n at-n) ∙ placed in
-          let side = alike n at-k at-n ∙ kind in
-          (at-n, among-ways g u (reference-of k) (reference-of n) ∙ rw (side, place, arc))
+  -- a way on of a number is one of its reference
+  module _ (k : ℕ) (t u : ℕ → Bool) (alike : (m : ℕ) → k < count → m < count → u (reference-of m) ≡ t m) where
+    pub ways-back : (n : ℕ) → among n (keep t (targets (canonical g) k)) ≡ true
+        → (n < count) × (among (reference-of n) (keep u (targets g (reference-of k))) ≡ true)
+    unfolding canonical
+    ways-back n e =
+        let way = sym (among-ways (canonical g) t k n) ∙ e in
+        let (kind, placed, joined) = way-parts (canonical g) t k n way in
+        let (at-k, at-n) = rows-inside (joins (g .arcs)) (order g) k n joined in
+        let arc = canonical-carries .arcs k n at-k at-n ∙ joined in
+        let place = ap present (canonical-carries .places n at-n) ∙ placed in
+        let side = alike n at-k at-n ∙ kind in
+        (at-n, among-ways g u (reference-of k) (reference-of n) ∙ rw (side, place, arc))
+
+    -- so a number has at most one where its reference has
+    pub ways-few : length (keep u (targets g (reference-of k))) ≤ 1
+        → length (keep t (targets (canonical g) k)) ≤ 1
+    ways-few few =
+        few-alike (keep t (targets (canonical g) k))
+        (keep-distinct t _ (keep-distinct (labelled (canonical g)) _
+        (heads-distinct k _ canonical-arcs-ascend)))
+        (λ n m p q.
+        let (at-n, way-n) = ways-back n p in
+        let (at-m, way-m) = ways-back m q in
+        canonical-carries .apart n m at-n at-m (alike-few _ few (reference-of n) (reference-of m) way-n way-m))
 
   module _ (few : Narrow g) where
     -- so the canonical graph is narrow
     pub canonical-narrow : Narrow (canonical g)
     canonical-narrow k = (
       ways-few k (side (canonical g) 1 k) (side g 1 (reference-of k))
-          (λ m p q. side-carried _ _ (canonical g) g canonical-carries k p m q) (few (reference-of k) .0),
+          (λ m p q. side-carried _ _ (canonical g) g canonical-carries 1 k p m q) (few (reference-of k) .0),
       ways-few k (λ m. not (side (canonical g) 1 k m)) (λ m. not (side g 1 (reference-of k) m))
-          (λ m p q. ap not (side-carried _ _ (canonical g) g canonical-carries k p m q))
+          (λ m p q. ap not (side-carried _ _ (canonical g) g canonical-carries 1 k p m q))
           (few (reference-of k) .1),
     )
 

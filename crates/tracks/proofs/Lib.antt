@@ -1,9 +1,11 @@
--- Laws of saved tracks: `Walking`, of the numbering walk; `Ordered`, the order of a graph's nodes, which reaches all of a
--- run's; `References`, lists of references by number, `Pairs`, ascending pairs, and `Rows`, what rows of pairs list;
--- `Renaming`, graphs that a map carries onto each other, `Canonical`, the graph by its numbers, and `Renumbered`, when two
--- have one; `Literals`, what the table has at a place; `Labels`, where a run's labels stand; `Counted`, labels and arcs by
--- counts; `Tracked`, what a run's track is as a graph; `FrameBytes`, a frame and its bytes, `DueLines`, the frames that are
--- due, and `Spelled`, a graph and its text.
+-- Laws of saved tracks: `Walking`, the numbering walk over any ways on; `Ordered`, the order of a graph's
+-- references, which reaches all of a run's; `References`, references by their numbers; `Pairs`, lists of pairs by
+-- what they join; `Rows`, what the rows of a numbered graph list; `Renaming`, a map that carries a graph carries its
+-- order; `Canonical`, the graph by its numbers; `Renumbered`, graphs that a renumbering carries to each other;
+-- `Literals`, what the table has at a place; `Labels`, where a run's labels stand; `Counted`, labels and arcs by
+-- counts; `Tracked`, what a run's track is as a graph; `FrameBytes`, a frame and its bytes; `DueLines`, the frames
+-- that are due; `Spelled`, a graph and its text; `Accepted`, the reader's shape of a run's track; `Refusals`, those
+-- of a text. The theorems are in `Kept`, what saving and reading keep, and `Exactly`, which runs save equal bytes.
 pub mod Walking
 pub mod Ordered
 pub mod References
@@ -19,3 +21,7 @@ pub mod Tracked
 pub mod FrameBytes
 pub mod DueLines
 pub mod Spelled
+pub mod Accepted
+pub mod Refusals
+pub mod Kept
+pub mod Exactly

@@ -83,6 +83,12 @@ number-there (m ∷ ms) n e = go (eqb n m) refl (λ there. number-there ms n the
     go false e further (inl is) = absurd (eqb-false n m e is)
     go false e further (inr there) = let (inside, is) = further there in (omega arith, is)
 
+-- and the number of what stands there is that
+pub number-again : (o : List ℕ) → Distinct o → (k : ℕ) → k < length o → number-in o (getD o k 0) ≡ k
+number-again o d k l =
+    let (inside, is) = number-there o (getD o k 0) (element-among o k l) in
+    distinct-numbers o d (number-in o (getD o k 0)) k inside l is
+
 -- the numbers in order: each is its own, below the count
 pub from-on-inside : (k n i : ℕ) → i < n → getElem? (from-on k n) i ≡ some (k + i)
 unfolding from-on

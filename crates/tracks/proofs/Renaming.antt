@@ -16,10 +16,14 @@ use Rattle.tracks.proofs.Walking.{Within, Closed, among-first, among-no
 use Rattle.tracks.proofs.Walking.{OneToOne, walk-renamed}
 use Rattle.tracks.proofs.Ordered.{among-keep, targets-joined, next-targets, order-enough}
 
--- of the ways on to the .1 side, and of the others, each node has at most one
+-- of the ways on to the .1 side, and of the others, a node has at most one
+abbrev pub NarrowAt : Graph → ℕ → Type 0
+NarrowAt g n = (length (keep (side g 1 n) (targets g n)) ≤ 1)
+    × (length (keep (λ m. not (side g 1 n m)) (targets g n)) ≤ 1)
+
+-- and each node has
 abbrev pub Narrow : Graph → Type 0
-Narrow g = (r : ℕ) → (length (keep (side g 1 r) (targets g r)) ≤ 1)
-    × (length (keep (λ m. not (side g 1 r m)) (targets g r)) ≤ 1)
+Narrow g = (n : ℕ) → NarrowAt g n
 
 -- a labelled target that passes a test
 abbrev pub way : Graph → (ℕ → Bool) → ℕ → ℕ → Bool
@@ -85,17 +89,17 @@ module _ (D : ℕ → Type 0) (φ : ℕ → ℕ) (g h : Graph) (c : Carries D φ
       (l, among-ways g t n l ∙ sym (way-carried t u alike n l here there) ∙ ap (way h u (φ n)) is ∙ found))
 
   -- sides are carried
-  pub side-carried : (n : ℕ) → D n → (m : ℕ) → D m → side h 1 (φ n) (φ m) ≡ side g 1 n m
-  side-carried n here m there = rw (c .places n here, c .places m there)
+  pub side-carried : (x n : ℕ) → D n → (m : ℕ) → D m → side h x (φ n) (φ m) ≡ side g x n m
+  side-carried x n here m there = rw (c .places n here, c .places m there)
 
   -- the ways on are carried
   pub next-carried : Narrow g → Narrow h → (n : ℕ) → D n → next h (φ n) ≡ map φ (next g n)
   unfolding next
   next-carried few few′ n here =
       rw (
-        ways-carried (side g 1 n) (side h 1 (φ n)) (side-carried n here) n here (few n .0) (few′ (φ n) .0),
+        ways-carried (side g 1 n) (side h 1 (φ n)) (side-carried 1 n here) n here (few n .0) (few′ (φ n) .0),
         ways-carried (λ m. not (side g 1 n m)) (λ m. not (side h 1 (φ n) m))
-            (λ m there. ap not (side-carried n here m there)) n here (few n .1) (few′ (φ n) .1),
+            (λ m there. ap not (side-carried 1 n here m there)) n here (few n .1) (few′ (φ n) .1),
       )
       (sym (map-append φ (keep (side g 1 n) (targets g n)) _))
 

@@ -28,6 +28,7 @@ use Rattle.report.proofs.Branches.{any, one-way-on, sides-on, sides-on-once}
 use Rattle.tracks.specs.Graph.{Graph, graph-of, present, labelled, keep, heads, targets, on-side, side, meets}
 use Rattle.tracks.specs.Shape.{same, placed, every, branches, event-of, one-event}
 use Rattle.tracks.proofs.Ordered.{counted-label}
+use Rattle.tracks.proofs.Renaming.{NarrowAt, Narrow}
 use Rattle.tracks.proofs.Literals.{splits-or-not, event-at, Ranged, ranged, literal-ranged}
 use Rattle.tracks.proofs.Labels.{first-label, There, Placing, reached-opened, Opened, label-places}
 use Rattle.tracks.proofs.Counted.{lookup-labelled, labelled-lookup, joins-times, keep-most}
@@ -43,11 +44,6 @@ side-is g x n m e f = rw (e, f)
 not-both : {A : Type 0} (b : Bool) → b ≡ true → not b ≡ true → A
 not-both true e f = let z : _≡_ {A = ℕ} 0 1 = cc in absurd (omega arith)
 not-both false e f = let z : _≡_ {A = ℕ} 0 1 = cc in absurd (omega arith)
-
--- at most one way on from a node to its .1 side, and at most one elsewhere
-abbrev pub Narrow : Graph → ℕ → Type 0
-Narrow g n = (length (keep (side g 1 n) (targets g n)) ≤ 1)
-    × (length (keep (λ m. not (side g 1 n m)) (targets g n)) ≤ 1)
 
 -- two optional events are of one number
 abbrev OneEvent : Option ℕ → Option ℕ → Type 0
@@ -144,7 +140,7 @@ module _ (ts : List Term) {s : State} (p : Reached ts s) where
     )
 
     -- so the ways on are few, whether or not it splits
-    narrow-here : Narrow g n
+    narrow-here : NarrowAt g n
     narrow-here =
         ⊎-elim (λ h. (one-on-side (h .1) 1, off-side (h .1))) (λ h. (one-on-any (h .1) _, one-on-any (h .1) _))
         (splits-or-not ts w)
@@ -170,10 +166,10 @@ module _ (ts : List Term) {s : State} (p : Reached ts s) where
         (splits-or-not ts w)
 
   -- a node leads on at most once to its .1 side and at most once elsewhere
-  pub run-narrow : (n : ℕ) → Narrow g n
+  pub run-narrow : Narrow g
   run-narrow n = go (lookup n (s .labels)) refl
     where
-      go : (o : Option Place) → lookup n (s .labels) ≡ o → Narrow g n
+      go : (o : Option Place) → lookup n (s .labels) ≡ o → NarrowAt g n
       go none e =
           let other = unlabelled-ends n (λ m. not (side g 1 n m)) e in
           (omega (arith, unlabelled-ends n (side g 1 n) e), omega (arith, other))
