@@ -3,9 +3,9 @@
     python3 tests/differential.py [--count N] [--seed S] [--first I] [--program NAME]
 
 It runs target/bin/NAME once for every input, as the kit's rt runs it, and holds what the program prints
-against the independent program's listing: judge on the inputs of generate.py, play on those of runs.py. The
-first difference ends the run with status 1; what is printed then says how to see it again. Without any, one
-line tells the inputs, the outcomes and the seconds.
+against the independent program's listing: judge on the inputs of generate.py, play on those of runs.py, reread
+on those of tracks.py. The first difference ends the run with status 1; what is printed then says how to see it
+again. Without any, one line tells the inputs, the outcomes and the seconds.
 """
 
 import argparse
@@ -24,6 +24,8 @@ import generate
 import independent
 import rules
 import runs
+import saved
+import tracks
 from programs import Answer, answer_of, binary_of, prepare
 
 WORKERS = 2
@@ -49,6 +51,7 @@ class Subject(NamedTuple):
 SUBJECTS = {
     "judge": Subject(generate.generate, generate.family_of, independent.listing, independent.outcome),
     "play": Subject(runs.generate, runs.family_of, rules.play_listing, rules.play_outcome),
+    "reread": Subject(tracks.generate, tracks.family_of, saved.reread_listing, saved.reread_outcome),
 }
 
 

@@ -417,12 +417,12 @@ def counters_line(run):
 
 
 def track_by_references(run):
-    """What is offered, the counters, and the track by its references, in the order made."""
+    """What is offered, the counters, the track by its references, in the order made, and its saved text."""
     lines = [offers_line(run.control), counters_line(run)]
     lines += ["51" + node_bytes(*label) for label in sorted(run.track.labels)]
     lines += ["52%04x%04x" % arc for arc in run.track.arcs]
     lines += ["53%04x%04x" % meeting for meeting in run.track.meetings]
-    return text_of(lines)
+    return text_of(lines) + saved_in_its_room(run)
 
 
 def play_listing(given):

@@ -151,7 +151,7 @@ class PlayListing(unittest.TestCase):
             "5200000001/5200010002/5200020003/5200030004/5200010005/5200050006/5200060007/5200040008/"
             "5200070009/"
         )
-        self.assertEqual(told, text(steps + offers_and_counters + nodes + arcs + "5300020005/"))
+        self.assertEqual(told, text(steps + offers_and_counters + nodes + arcs + "5300020005/" + CASE_A_TRACK))
         self.assertEqual(play_outcome(told), "stuck")
 
     def test_case_d(self):
@@ -160,14 +160,18 @@ class PlayListing(unittest.TestCase):
         offers_and_counters = "4200000000000000000000/43000600070001000400070000/"
         nodes = "510000000100/5100010000/510002000101/510004000102/"
         arcs = "5200000001/5200010002/5200020003/5200010004/5200040005/5200020006/5200040006/"
-        self.assertEqual(told, text(steps + offers_and_counters + nodes + arcs))
+        saved = (
+            "3001000400030000/310000000100/3100010000/310002000101/310003000102/3200000001/3200010002/3200010003/3f/"
+        )
+        self.assertEqual(told, text(steps + offers_and_counters + nodes + arcs + saved))
         self.assertEqual(play_outcome(told), "ended")
 
     def test_case_k_refused(self):
         told = self.play(ON_E0 + E0_STOP + E1_STOP, 5, "200000/20000101/20000102/")
         steps_and_refusal = "4000/4100/4e070002/"
         offers_and_counters = "4200000000000000000002/43000100020001000100010000/"
-        self.assertEqual(told, text(steps_and_refusal + offers_and_counters + "510000000100/5200000001/"))
+        track = "510000000100/5200000001/3001000100000000/310000000100/3f/"
+        self.assertEqual(told, text(steps_and_refusal + offers_and_counters + track))
         self.assertEqual(play_outcome(told), "refused 7")
 
     def test_offers_of_every_sort(self):
@@ -177,7 +181,7 @@ class PlayListing(unittest.TestCase):
 
     def test_no_step(self):
         told = self.play("1207/", 1, "")
-        self.assertEqual(told, text("4100/4201000000000000000000/43000000010001000000000000/"))
+        self.assertEqual(told, text("4100/4201000000000000000000/43000000010001000000000000/3001000000000000/3f/"))
 
     def test_refusals_that_stand_alone(self):
         self.assertEqual(self.play("1207/", 2, "200000/"), text("4e030004/"))

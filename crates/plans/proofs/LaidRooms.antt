@@ -8,17 +8,21 @@ use mathlib.Core.Bool.{Bool, true, false, _||_}
 use mathlib.Core.List.{List, [], _∷_}
 use mathlib.Core.Option.{Option, none, some}
 use native.Mathlib.Omega.{arith}
-use lib.ListN.{length, getD, getElem?, set, replicate}
+use lib.ListN.{length, getD, getElem?, set, replicate, length-append}
 use lib.Dec.{ltb, eqb}
 use Rattle.lines.specs.Line.{choose}
 use Rattle.frames.specs.Kind as Kind
 use Rattle.frames.specs.Kind.{subterms}
 use Rattle.frames.specs.TableFrame.{term-room, path-room, definition-room}
 use Rattle.tables.specs.Table.{Sofar, accepted, judged}
-use Rattle.tables.specs.Columns.{roots}
+use Rattle.tables.specs.Columns.{kinds, owners, afters, roots}
 use Rattle.terms.specs.Term.{Term, starts, definitions-of}
 use Rattle.terms.proofs.Trees.{checked-trees}
-use Rattle.places.specs.Code.{look, below, descended, digits, path-of, literal-path}
+use Rattle.places.specs.Place.{left-path}
+use Rattle.places.specs.Code.{Columns, columns, look, below, descended, digits, path-of, with-event, event-of}
+use Rattle.places.specs.Code.{literal-path}
+use Rattle.places.specs.declared.Literal.{Literal}
+use Rattle.places.specs.declared.Literal.the-variants.{Left, Own, Event}
 use Rattle.plans.specs.Plan.{word, around}
 use Rattle.plans.specs.Laid.{put, own-words, through, inward, told, laid, turns, laid-out, found}
 use Rattle.plans.specs.Laid.{place-of, layout}
@@ -52,10 +56,26 @@ unfolding found digits
 found-short d f none h = h
 found-short d f (some w) h = h
 
--- no term's path is longer than there is room for
+-- an event's digit more behind a path
+event-short : (f : ℕ) (b : Bool) (o : Option (List ℕ)) → length (digits o) ≤ f
+    → length (digits (choose b (with-event o) none)) ≤ suc f
+unfolding with-event digits
+event-short f true none h = omega arith
+event-short f true (some w) h = omega (arith, length-append w (1 ∷ []))
+event-short f false o h = omega arith
+
+-- no literal's path is longer than there is room for
+pub place-short : (c : Columns) (a : Literal) → length (place-of c a .path) ≤ path-room
+unfolding place-of literal-path path-of event-of digits
+place-short c (Left d) = found-short _ path-room (some left-path) (omega arith)
+place-short c (Own n) = found-short _ path-room _ (descended-short path-room _ _ _ n)
+place-short c (Event n) =
+    let is-prefix = eqb (look term-room (c .kinds) n) Kind.prefix in
+    found-short _ path-room _ (event-short 63 is-prefix (path-of 63 c n) (descended-short 63 _ _ _ n))
+
 pub layout-low : (s : Sofar) (i : ℕ) → length (layout s .place i .path) ≤ path-room
-unfolding layout place-of literal-path path-of
-layout-low s i = found-short _ path-room _ (descended-short path-room _ _ _ i)
+unfolding layout
+layout-low s i = place-short (columns (kinds s) (owners s) (afters s) (roots s)) (Own i)
 
 -- every fourth word is 0 or one more than the number of a term
 abbrev Numbered : List ℕ → Type 0

@@ -50,7 +50,7 @@ labelled-lookup {n = n} {w = w} (List·Memᴰ·tail {x = l} {xs = ls} i) h =
     go false h more = more (omega arith)
 
 -- meetings count as arcs do
-times-between : (i j : ℕ) (g : List Pair) → times i j g ≡ between i j g
+pub times-between : (i j : ℕ) (g : List Pair) → times i j g ≡ between i j g
 unfolding times sum one share
 times-between i j [] = refl
 times-between i j (a ∷ g) = go (eqb i (a .from)) (eqb j (a .to)) (times-between i j g)

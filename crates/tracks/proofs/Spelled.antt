@@ -286,13 +286,13 @@ node-lengths [] = 0
 node-lengths (l ∷ ls) = (11 + 2 * length (l .place .path)) + node-lengths ls
 
 -- a byte is two characters
-hex-length : (bs : List ℕ) → length (hex bs) ≡ 2 * length bs
+pub hex-length : (bs : List ℕ) → length (hex bs) ≡ 2 * length bs
 unfolding hex
 hex-length [] = refl
 hex-length (b ∷ bs) = omega (arith, hex-length bs)
 
 -- a line is its bytes' characters and LF
-line-length : (bs : List ℕ) (fs : List (List ℕ))
+pub line-length : (bs : List ℕ) (fs : List (List ℕ))
     → length (text (bs ∷ fs)) ≡ 2 * length bs + 1 + length (text fs)
 unfolding text
 line-length bs fs = omega (arith, length-append (hex bs) (LF ∷ text fs), hex-length bs)
@@ -303,12 +303,12 @@ unfolding text
 lines-length [] hs = omega arith
 lines-length (bs ∷ fs) hs = omega (arith, line-length bs (fs ++ hs), line-length bs fs, lines-length fs hs)
 
-nodes-length : (ls : List Label) → length (text (map node-frame ls)) ≡ node-lengths ls
+pub nodes-length : (ls : List Label) → length (text (map node-frame ls)) ≡ node-lengths ls
 unfolding text node-frame two node-lengths
 nodes-length [] = refl
 nodes-length (l ∷ ls) = omega (arith, line-length (node-frame l) (map node-frame ls), nodes-length ls)
 
-pairs-length : (k : ℕ) (as′ : List Pair) → length (text (map (pair-frame k) as′)) ≡ 11 * length as′
+pub pairs-length : (k : ℕ) (as′ : List Pair) → length (text (map (pair-frame k) as′)) ≡ 11 * length as′
 unfolding text pair-frame two
 pairs-length k [] = refl
 pairs-length k (a ∷ as′) =

@@ -116,7 +116,7 @@ target-word (n ∷ []) h inside = rw (lt-ltb n reference-room (inside n (among-f
 target-word (n ∷ m ∷ ns) h inside = absurd (omega arith)
 
 -- what holds of each that a list has holds of every one
-every-member : (t : Label → Bool) (ls : List Label) → ((l : Label) → List·Memᴰ l ls → t l ≡ true)
+pub every-member : (t : Label → Bool) (ls : List Label) → ((l : Label) → List·Memᴰ l ls → t l ≡ true)
     → every t ls ≡ true
 unfolding every
 every-member t [] h = refl

@@ -1,0 +1,92 @@
+-- The text of a graph in columns is its opening line, the lines of nodes, arcs and meetings, and the last line,
+-- put one behind another; its length is theirs. Where the slice has that length the answer is that the text was
+-- written, and else it is the length alone. Assumes nothing.
+use Prim.Native.Nat.{ℕ, _+_, _*_, _≤_, _<_, min}
+use mathlib.Core.Path.{_≡_, ap, _∙_}
+use mathlib.Core.Bool.{true, false}
+use mathlib.Core.List.{List, [], _∷_, _++_, map}
+use native.Mathlib.Omega.{arith}
+use lib.ListN.{length}
+use lib.Dec.{leb}
+use borrow.Author.Tests.{le-leb, lt-leb}
+use Rattle.lines.specs.Line.{text}
+use Rattle.report.specs.Run.{arc-room, meeting-room}
+use Rattle.control.specs.Words.{reference-room}
+use Rattle.places.specs.Code.{Columns}
+use Rattle.stepping.specs.Views.{pairs}
+use Rattle.tracks.specs.Graph.{Graph}
+use Rattle.tracks.specs.Saved.{two, opening-frame, node-frame, pair-frame, arc-code, meeting-code, last-frame}
+use Rattle.tracks.specs.Saved.{frames, graph-text}
+use Rattle.tracks.proofs.Spelled.{nodes-length, text-length}
+use Rattle.walks.specs.declared.Counts.{Counts}
+use Rattle.writing.specs.declared.Saved.the-variants.{Written, Short}
+use Rattle.writing.specs.Told.{labels-told, graph-told, answer, left}
+use Rattle.writing.specs.Code.{Puts}
+use Rattle.writing.proofs.Putting.{puts-then}
+use Rattle.writing.proofs.Spelt.{text-append, pairs-count, nodes-count}
+
+-- the text of a graph, a part behind another
+parts : (g : Graph)
+    → graph-text g
+    ≡ text (opening-frame g ∷ []) ++ text (map node-frame (g .labels)) ++ text (map (pair-frame arc-code) (g .arcs))
+    ++ text (map (pair-frame meeting-code) (g .meetings))
+    ++ text (last-frame ∷ [])
+unfolding frames
+parts g =
+    let opening = opening-frame g ∷ [] in
+    let nodes = map node-frame (g .labels) in
+    let arcs = map (pair-frame arc-code) (g .arcs) in
+    let meetings = map (pair-frame meeting-code) (g .meetings) in
+    text-append (opening ++ nodes ++ arcs ++ meetings) (last-frame ∷ [])
+    ∙ ap (λ (l : List ℕ). l ++ text (last-frame ∷ [])) (text-append (opening ++ nodes ++ arcs) meetings)
+    ∙ ap (λ (l : List ℕ). l ++ text meetings ++ text (last-frame ∷ [])) (text-append (opening ++ nodes) arcs)
+    ∙ ap (λ (l : List ℕ). l ++ text arcs ++ text meetings ++ text (last-frame ∷ [])) (text-append opening nodes)
+
+module _ (c : Columns) (ms g : List ℕ) (counts : Counts) {n a m : ℕ} (nodes : n ≡ min (counts .nodes) reference-room)
+    (arcs : a ≡ min (counts .arcs) arc-room)
+    (meetings : m ≡ min (counts .meetings) meeting-room) where
+  -- the length of the text
+  pub size-told : (k : ℕ) → k ≡ length (text (map node-frame (labels-told c ms 0 n)))
+      → k + 11 * a + 11 * m + 20 ≡ length (graph-text (graph-told c ms g counts))
+  unfolding graph-told
+  size-told k e =
+      let lines-are = nodes-length (labels-told c ms 0 n) in
+      rw (text-length (graph-told c ms g counts), pairs-count, pairs-count, ← nodes, ← arcs, ← meetings)
+      (omega (arith, e, lines-are))
+
+  -- the parts are the text
+  pub text-put : {s t u v w x : List ℕ} {b d e f z : ℕ}
+      → Puts 0 (text ((0x30 ∷ 1 ∷ two n ++ two a ++ two m) ∷ [])) s t b
+      → Puts b (text (map node-frame (labels-told c ms 0 n))) t u d
+      → Puts d (text (map (pair-frame arc-code) (pairs 0 g 0 a))) u v e
+      → Puts e (text (map (pair-frame meeting-code) (pairs 16384 g 0 m))) v w f
+      → Puts f (text (last-frame ∷ [])) w x z
+      → Puts 0 (graph-text (graph-told c ms g counts)) s x z
+  unfolding graph-told opening-frame
+  text-put p q r o l =
+      rw (
+        parts (graph-told c ms g counts),
+        ← nodes,
+        ← arcs,
+        ← meetings,
+        nodes-count c ms 0 n,
+        pairs-count 0 g 0 a,
+        pairs-count 16384 g 0 m,
+      )
+      (puts-then (puts-then (puts-then (puts-then p q) r) o) l)
+
+module _ (t slice : List ℕ) (size : ℕ) (sized : size ≡ length t) where
+  -- a text that fits is written
+  pub fits : {after : List ℕ} {end : ℕ} → size ≤ length slice → Puts 0 t slice after end
+      → (Written size ≡ answer t (length slice)) × (after ≡ left t slice)
+  unfolding answer left
+  fits h p =
+      let test : leb (length t) (length slice) ≡ true = le-leb (length t) (length slice) (omega arith) in
+      (simp test (ap Written sized), simp test (p .stands))
+
+  -- one that does not leaves the slice as it was
+  pub falls-short : length slice < size → (Short size ≡ answer t (length slice)) × (slice ≡ left t slice)
+  unfolding answer left
+  falls-short h =
+      let test : leb (length t) (length slice) ≡ false = lt-leb (length t) (length slice) (omega arith) in
+      (simp test (ap Short sized), simp test)

@@ -1,0 +1,90 @@
+// Graphs written: a graph in columns becomes lines of hexadecimal in a lent slice. Its length is told first, so that a slice
+// that is too short is left as it was.
+mod nodes;
+mod spelling;
+
+use nodes::nodes_length;
+use nodes::put_nodes;
+use spelling::put_last;
+use spelling::put_opening;
+use spelling::put_pairs;
+use walks::Counts;
+use walks::at_most;
+ghost use mathlib.Core.Path.{_≡_};
+ghost use lib.ListN.{length};
+ghost use Rattle.places.specs.Code.{columns};
+ghost use Rattle.tracks.specs.Saved.{graph-text};
+ghost use Rattle.writing.specs.Told.{graph-told, answer, left, refusal};
+
+// Rooms of a graph in columns.
+const REFERENCES: usize = 8193;
+
+const ARCS: usize = 8192;
+
+const MEETINGS: usize = 4096;
+
+// Where the meetings begin in a track.
+const MEETINGS_FROM: usize = 16384;
+
+// First bytes of frames.
+const ARC: u8 = 50;
+
+const MEETING: u8 = 51;
+
+// Bytes of the first and the last line, and of an arc's or a meeting's.
+const FRAME_LINES: usize = 20;
+
+const PAIR_LINE: usize = 11;
+
+// What writing comes to: the length of the text; or refusal 12, with the length that the text would have.
+pub enum Saved {
+    Written(usize),
+    Short(usize),
+}
+
+// Writes a graph with these counts, by the marks of its nodes. `Short` leaves the slice as it was, and bytes
+// past the text keep their content.
+pub fn write(
+    counts: Counts,
+    labels: &[u16; 8193],
+    graph: &[u16; 28672],
+    kinds: &[u8; 1024],
+    owners: &[u8; 1024],
+    after: &[u16; 1024],
+    roots: &[u16; 64],
+    text: &mut [u8],
+) -> Saved
+    ensures { λ r. ⌜ r ≡ answer (graph-text (graph-told
+        (columns (now (kinds .entry)) (now (owners .entry)) (now (after .entry)) (now (roots .entry)))
+        (now (labels .entry)) (now (graph .entry)) counts)) (length (now (text .entry))) ⌝ }
+    ensures { λ _. ⌜ now (text .exit) ≡ left (graph-text (graph-told
+        (columns (now (kinds .entry)) (now (owners .entry)) (now (after .entry)) (now (roots .entry)))
+        (now (labels .entry)) (now (graph .entry)) counts)) (now (text .entry)) ⌝ }
+{
+    let n = at_most(counts.nodes, REFERENCES);
+    let a = at_most(counts.arcs, ARCS);
+    let s = at_most(counts.meetings, MEETINGS);
+    let size = nodes_length(n, labels, kinds, owners, after, roots)
+        + PAIR_LINE * a
+        + PAIR_LINE * s
+        + FRAME_LINES;
+    if text.len() < size {
+        return Saved::Short(size);
+    }
+    let behind_opening = put_opening(n, a, s, text);
+    let behind_nodes = put_nodes(n, labels, kinds, owners, after, roots, behind_opening, text);
+    let behind_arcs = put_pairs(ARC, 0, a, graph, behind_nodes, text);
+    let behind_meetings = put_pairs(MEETING, MEETINGS_FROM, s, graph, behind_arcs, text);
+    put_last(behind_meetings, text);
+    Saved::Written(size)
+}
+
+// The number of the refusal that an answer is; 0 where it is none.
+pub fn refusal_of(saved: Saved) -> u8
+    ensures { λ r. ⌜ r ≡ refusal saved ⌝ }
+{
+    match saved {
+        Saved::Written(_) => 0,
+        Saved::Short(_) => 12,
+    }
+}
