@@ -3,6 +3,7 @@ use control::Event;
 use control::LABEL;
 use control::track_word;
 use control::word;
+use lines::characters;
 use offers::Status;
 use offers::offers;
 use offers::status_at;
@@ -12,6 +13,8 @@ use places::place;
 use runs::Played;
 use runs::play;
 use runs::start;
+use saving::save;
+use writing::Saved;
 ghost use Prim.Native.Nat.{_≤_};
 
 const OUT: i32 = 1;
@@ -21,6 +24,12 @@ const SCRIPT_ROOM: usize = 65536;
 const REFERENCES: usize = 8193;
 
 const MEETINGS: usize = 16384;
+
+// Bytes of the slice that a track is saved into.
+const SAVE_ROOM: usize = 65536;
+
+// The number of the refusal where the saved text is longer.
+const SHORT: u8 = 12;
 
 // `4e rr llll`: the refusal that ends the work.
 pub fn tell_refusal(number: u8, line: usize) {
@@ -55,6 +64,7 @@ pub fn tell_run(
     tell_nodes(wide(counters[1]), kinds, owners, after, roots, &nodes);
     tell_pairs(b"52", 0, wide(counters[4]), &track);
     tell_pairs(b"53", MEETINGS, wide(counters[5]), &track);
+    tell_saved(kinds, owners, after, roots, &nodes, &track, &counters);
 }
 
 // The refusal that ended a script, 0 where there was none.
@@ -232,6 +242,49 @@ fn tell_pairs(tag: &[u8], from: usize, count: usize, track: &[u16; 28672])
         tell_word(track_word(from + 2 * i + 1, track));
         end_line();
         i += 1;
+    }
+}
+
+// The saved track, or `4e0c0000` where it passes its room.
+fn tell_saved(
+    kinds: &[u8; 1024],
+    owners: &[u8; 1024],
+    after: &[u16; 1024],
+    roots: &[u16; 64],
+    nodes: &[u16; 65544],
+    track: &[u16; 28672],
+    counters: &[u16; 8],
+) {
+    let mut labels = [0u16; 8193];
+    let mut graph = [0u16; 28672];
+    let mut marks = [0u16; 8193];
+    let mut sides = [0u16; 16388];
+    let mut pending = [0u16; 16388];
+    let mut numbers = [0u16; 8193];
+    let mut spare = [0u16; 28672];
+    let mut text = [0u8; SAVE_ROOM];
+    let saved = save(
+        kinds,
+        owners,
+        after,
+        roots,
+        nodes,
+        track,
+        counters,
+        &mut labels,
+        &mut graph,
+        &mut marks,
+        &mut sides,
+        &mut pending,
+        &mut numbers,
+        &mut spare,
+        &mut text,
+    );
+    match saved {
+        Saved::Short(_) => tell_refusal(SHORT, 0),
+        Saved::Written(length) => {
+            io::write_all(OUT, characters(&text, 0, length));
+        }
     }
 }
 

@@ -1,0 +1,335 @@
+-- The columns of a graph by its numbers tell its canonical graph. The walk over the columns is the graph's,
+-- so the numbers are; sorted pairs ascend and join the numbers that the canonical ones join, so they are
+-- those; and marks and words are read back as they were put. Assumes nothing.
+use Prim.Native.Nat.{ℕ, zero, suc, _+_, _*_, _-_, _/_, _%_, min, _≤_, _<_}
+use mathlib.Core.Path.{_≡_, refl, sym, ap, ap₂, _∙_}
+use mathlib.Core.Bool.{Bool, true, false, _&&_, _||_, not}
+use mathlib.Core.List.{List, [], _∷_, _++_, map}
+use mathlib.Core.Option.{Option, none, some}
+use native.Mathlib.Omega.{arith}
+use native.Mathlib.Nat.{zero-add, add-zero, add-suc, suc-add}
+use lib.ListN.{length, getD, getElem?, set, replicate, drop, length-map, length-replicate, getD-replicate}
+use lib.ListN.{List·getD-append, List·getD-eq-default}
+use lib.Seq.{sets, sets-eq, length-sets, getD-append-add, getD-drop, getD-set-other}
+use lib.Dec.{leb, ltb, eqb}
+use borrow.Author.Tests.{eqb-true, eqb-false, ltb-true, ltb-false, le-leb, lt-leb}
+use Rattle.lines.specs.Line.{choose}
+use Rattle.tables.specs.Table.{Sofar, accepted, judged}
+use Rattle.tables.specs.Columns.{kinds, owners, afters, roots}
+use Rattle.terms.specs.Term.{definitions-of}
+use Rattle.places.specs.Place.{left-path}
+use Rattle.places.specs.Code.{Columns, columns, literal-path, literal-definition}
+use Rattle.places.specs.declared.Literal.the-variants.{Left, Own, Event}
+use Rattle.places.proofs.Ways.{look-in, look-out}
+use Rattle.control.specs.Words.{reference-room, track-words, track-word}
+use Rattle.report.specs.Track.{Label, Pair, lookup}
+use Rattle.report.specs.Run.{arc-room, meeting-room}
+use Rattle.report.proofs.Marked.{tally}
+use Rattle.report.proofs.Weighed.{between}
+use Rattle.plans.specs.Laid.{layout, place-of, found}
+use Rattle.stepping.specs.Views.{pairs, place-told}
+use Rattle.tracks.specs.Graph.{Graph, joins, meets}
+use Rattle.tracks.specs.Walk.{among, order}
+use Rattle.tracks.specs.Saved.{placed, numbered, canonical}
+use Rattle.tracks.specs.Shape.{every, branches, ascends}
+use Rattle.tracks.proofs.Walking.{Within, among-first, within-rest, distinct-below}
+use Rattle.tracks.proofs.Ordered.{order-distinct, order-labelled}
+use Rattle.tracks.proofs.Pairs.{ascending-same}
+use Rattle.tracks.proofs.Rows.{tested}
+use Rattle.tracks.proofs.Counted.{joins-between}
+use Rattle.tracks.proofs.Canonical.{canonical-arcs, canonical-arcs-ascend, canonical-arcs-few}
+use Rattle.tracks.proofs.Canonical.{canonical-meetings, canonical-meetings-ascend, canonical-meetings-few}
+use Rattle.walks.specs.Columns.{at, flat}
+use Rattle.walks.specs.Walked.{numbers, laid, marks-by}
+use Rattle.walks.proofs.Telling.{Telling, mark-told, labelled-told}
+use Rattle.walks.proofs.LinkedWords.{marked, marked-inside}
+use Rattle.walks.proofs.LinkTold.{all-fit-told, walked-told}
+use Rattle.numbering.specs.Numbered.{renumbered, sorted, arcs-in, meetings-in, order-by, arcs-by, meetings-by}
+use Rattle.numbering.specs.Numbered.{labels-out, track-out}
+use Rattle.numbering.proofs.Listed.{pairs-length, pairs-back}
+use Rattle.numbering.proofs.Renumbering.{renumbered-below}
+use Rattle.numbering.proofs.Ordering.{sorted-joins, sorted-ascends}
+use Rattle.writing.specs.Told.{literal, place-by, labels-told, graph-told}
+use Rattle.saving.proofs.NumberLaws.{Numbers, numbers-told, numbers-most, way}
+use Rattle.saving.proofs.NumberLaws.{renumbered-joins, renumbered-times}
+
+-- who meet are joined the one way or the other
+tested-meets : (as′ : List Pair) (x y : Option ℕ)
+    → tested (meets as′) x y ≡ tested (joins as′) x y || tested (joins as′) y x
+unfolding tested
+tested-meets as′ none none = refl
+tested-meets as′ none (some m) = refl
+tested-meets as′ (some n) none = refl
+tested-meets as′ (some n) (some m) = refl
+
+-- pairs of a graph, each of them made once, sorted by their numbers
+module _ (g : Graph) (ns : List ℕ) (given : Numbers (order g) ns) where
+  abbrev reference : ℕ → Option ℕ
+  reference = getElem? (order g)
+
+  -- are those that ascend and join the same
+  pairs-sorted : (either : Bool) (as′ bs : List Pair) → (either ≡ true → (n : ℕ) → joins as′ n n ≡ true → ⊥)
+      → ((i j : ℕ) → between i j as′ + choose either (between j i as′) 0 ≤ 1) → ascends bs ≡ true
+      → ((i j : ℕ) → way either i j (tested (joins as′) (reference i) (reference j))
+      (tested (joins as′) (reference j) (reference i)) ≡ joins bs i j)
+      → sorted (length (order g)) (renumbered either ns as′) ≡ bs
+  pairs-sorted either as′ bs apart once up same =
+      let d = order-distinct g in
+      let n : ℕ = length (order g) in
+      let ps = renumbered either ns as′ in
+      let low = renumbered-below n either ns (numbers-most (order g) ns d given) as′ in
+      ascending-same (sorted n ps) bs
+      (sorted-ascends n ps low (λ i j.
+      let seldom = once (getD (order g) i 0) (getD (order g) j 0) in
+      omega (arith, renumbered-times (order g) ns d given i j either as′, seldom)))
+      up
+      (λ i j. sorted-joins n ps low i j ∙ renumbered-joins (order g) ns d given either as′ apart i j ∙ same i j)
+
+  -- so the canonical ones
+  arcs-sorted : ((i j : ℕ) → between i j (g .arcs) ≤ 1)
+      → sorted (length (order g)) (renumbered false ns (g .arcs)) ≡ canonical g .arcs
+  unfolding way
+  arcs-sorted once =
+      pairs-sorted false (g .arcs) (canonical g .arcs)
+      (λ e. let z : _≡_ {A = ℕ} 0 1 = cc in absurd (omega arith))
+      (λ i j. omega (arith, once i j)) (canonical-arcs-ascend g) (λ i j. sym (canonical-arcs g i j))
+
+  meetings-sorted : ((i j : ℕ) → between i j (g .meetings) + between j i (g .meetings) ≤ 1)
+      → sorted (length (order g)) (renumbered true ns (g .meetings)) ≡ canonical g .meetings
+  unfolding way
+  meetings-sorted once =
+      pairs-sorted true (g .meetings) (canonical g .meetings)
+      (λ e n h. omega (arith, joins-between n n (g .meetings) .0 h, once n n)) once
+      (canonical-meetings-ascend g)
+      (λ i j.
+      ap (λ b. ltb i j && b) (sym (tested-meets (g .meetings) (reference i) (reference j)))
+      ∙ sym (canonical-meetings g i j))
+
+-- words put in front of others
+module _ (w xs : List ℕ) (few : length xs ≤ length w) (i : ℕ) where
+  in-front : sets w 0 xs ≡ xs ++ drop (length xs) w
+  in-front = sets-eq xs w 0 (omega arith) ∙ rw (zero-add (length xs))
+
+  front-put : i < length xs → getD (sets w 0 xs) i 0 ≡ getD xs i 0
+  front-put h = rw in-front (List·getD-append xs _ 0 i h)
+
+  front-kept : length xs ≤ i → getD (sets w 0 xs) i 0 ≡ getD w i 0
+  front-kept h =
+      let there : length xs + (i - length xs) ≡ i = omega arith in
+      ap (λ l. getD l i 0) in-front
+      ∙ ap (λ (k : ℕ). getD (xs ++ drop (length xs) w) k 0) (sym there)
+      ∙ getD-append-add xs (drop (length xs) w) (i - length xs) 0
+      ∙ getD-drop (length xs) w (i - length xs) 0
+      ∙ ap (λ (k : ℕ). getD w k 0) there
+
+-- what a column has of the words laid in front of it
+pub laid-told : (xs : List ℕ) → length xs ≤ reference-room → (i : ℕ) → at (laid xs) i ≡ getD xs i 0
+laid-told xs few i = go (ltb i reference-room) (ltb i (length xs)) refl refl
+  where
+    long : length xs ≤ length (replicate {A = ℕ} reference-room 0)
+    long = omega (arith, length-replicate {A = ℕ} reference-room 0)
+
+    go : (b c : Bool) → ltb i reference-room ≡ b → ltb i (length xs) ≡ c → at (laid xs) i ≡ getD xs i 0
+    go true true e f =
+        sym (look-in reference-room (laid xs) i (ltb-true i reference-room e))
+        ∙ front-put _ xs long i (ltb-true i (length xs) f)
+    go true false e f =
+        let here = ltb-true i reference-room e in
+        let past = ltb-false i (length xs) f in
+        sym (look-in reference-room (laid xs) i here) ∙ front-kept _ xs long i past
+        ∙ getD-replicate {A = ℕ} reference-room i 0 0 here ∙ sym (List·getD-eq-default xs 0 past)
+    go false c e f =
+        let past = ltb-false i reference-room e in
+        sym (look-out reference-room (laid xs) i past) ∙ sym (List·getD-eq-default xs 0 (omega arith))
+
+-- words put behind others leave these
+front-stays : (w : List ℕ) (b : ℕ) (vs : List ℕ) (i : ℕ) → i < b → getD (sets w b vs) i 0 ≡ getD w i 0
+front-stays w b [] i h = refl
+front-stays w b (v ∷ vs) i h =
+    front-stays (set w b v) (suc b) vs i (omega arith) ∙ getD-set-other w b i v 0 (λ e. omega arith)
+
+-- and the pairs that are read from them
+pairs-stay : (base : ℕ) (w : List ℕ) (b : ℕ) (vs : List ℕ) (i c : ℕ) → base + 2 * (i + c) ≤ b
+    → pairs base (sets w b vs) i c ≡ pairs base w i c
+unfolding pairs track-word
+pairs-stay base w b vs i zero h = refl
+pairs-stay base w b vs i (suc c) h =
+    rw (
+      front-stays w b vs (base + 2 * i) (omega arith),
+      front-stays w b vs (base + 2 * i + 1) (omega arith),
+      pairs-stay base w b vs (suc i) c (omega arith),
+    )
+
+-- the pairs of a track are read back from its words, where they have room
+module _ (w : List ℕ) (long : length w ≡ track-words) (as′ ms : List Pair) (few : length as′ ≤ arc-room)
+    (few-met : length ms ≤ meeting-room) where
+  abbrev both-put : List ℕ
+  both-put = sets (sets w 0 (flat as′)) 16384 (flat ms)
+
+  arcs-back : pairs 0 both-put 0 (min (length as′) arc-room) ≡ as′
+  arcs-back =
+      let all : min (length as′) arc-room ≡ length as′ = omega arith in
+      ap (pairs 0 both-put 0) all
+      ∙ pairs-stay 0 (sets w 0 (flat as′)) 16384 (flat ms) 0 (length as′) (omega arith)
+      ∙ pairs-back 0 w as′ long (omega arith)
+
+  meetings-back : pairs 16384 both-put 0 (min (length ms) meeting-room) ≡ ms
+  meetings-back =
+      let all : min (length ms) meeting-room ≡ length ms = omega arith in
+      ap (pairs 16384 both-put 0) all
+      ∙ pairs-back 16384 (sets w 0 (flat as′)) ms (length-sets w 0 (flat as′) ∙ long) (omega arith)
+
+-- what a map has at a place that there is
+map-at : (f : ℕ → ℕ) (o : List ℕ) (i : ℕ) → i < length o → getD (map f o) i 0 ≡ f (getD o i 0)
+map-at f [] i h = absurd (omega arith)
+map-at f (n ∷ o) zero h = refl
+map-at f (n ∷ o) (suc i) h = map-at f o i (omega arith)
+
+-- labels by the marks of an order are the graph's
+labels-numbered : (c : Columns) (ls : List Label) (ms out : List ℕ) (k : ℕ) (o : List ℕ)
+    → ((i : ℕ) → i < length o → at out (k + i) ≡ at ms (getD o i 0))
+    → Within (λ n. lookup n ls ≡ some (place-by c (at ms n))) o
+    → labels-told c out k (length o) ≡ numbered ls k o
+unfolding labels-told numbered placed
+labels-numbered c ls ms out k [] marks places = refl
+labels-numbered c ls ms out k (n ∷ o) marks places =
+    let here : at out k ≡ at ms n = rw add-zero at (marks 0 (omega arith)) in
+    let rest = labels-numbered c ls ms out (suc k) o
+    (λ i h. ap (at out) (suc-add k i ∙ sym (add-suc k i)) ∙ marks (suc i) (omega arith))
+    (within-rest (λ n. lookup n ls ≡ some (place-by c (at ms n))) n o places) in
+    rw (places n (among-first n o), here, rest)
+
+-- a mark tells the place of its literal
+mark-place : (s : Sofar) (m : ℕ) → (m ≡ 0 → ⊥)
+    → place-told (layout s) m ≡ place-by (columns (kinds s) (owners s) (afters s) (roots s)) m
+unfolding place-told literal layout place-of found literal-definition literal-path
+mark-place s m some-mark = go (eqb m 1) (eqb (m % 2) 0) refl
+  where
+    c : Columns
+    c = columns (kinds s) (owners s) (afters s) (roots s)
+
+    go : (a b : Bool) → eqb m 1 ≡ a
+        → choose a (record { definition = 0; path = left-path })
+        (choose b (place-of c (Own ((m - 2) / 2))) (place-of c (Event ((m - 3) / 2))))
+        ≡ place-of c (choose (leb m 1) (Left 0) (choose b (Own ((m - 2) / 2)) (Event ((m - 3) / 2))))
+    go true b e = rw (le-leb m 1 (omega (arith, eqb-true m 1 e)))
+    go false b e = rw (lt-leb m 1 (many (eqb-false m 1 e))) (by-parity b)
+      where
+        many : (m ≡ 1 → ⊥) → 1 < m
+        many other = omega arith
+
+        by-parity : (b : Bool)
+            → choose b (place-of c (Own ((m - 2) / 2))) (place-of c (Event ((m - 3) / 2)))
+            ≡ place-of c (choose b (Own ((m - 2) / 2)) (Event ((m - 3) / 2)))
+        by-parity true = refl
+        by-parity false = refl
+
+-- graphs by their parts
+same-graph : {ls ls′ : List Label} {as′ bs : List Pair} {ms ns : List Pair} → ls ≡ ls′ → as′ ≡ bs → ms ≡ ns
+    → _≡_ {A = Graph} (record { labels = ls; arcs = as′; meetings = ms })
+    (record { labels = ls′; arcs = bs; meetings = ns })
+same-graph e f h = rw (e, f, h)
+
+-- a graph that columns tell over a checked table: marks tell its labels, each of them made once, and words
+-- its arcs, which branch as they may, and its meetings
+module _ (text : List ℕ) (s : Sofar) (q : judged text ≡ accepted s) (ms : List ℕ) (g : Graph)
+    (tells : Telling s ms g) (t : List ℕ) (a m : ℕ) (arcs-are : arcs-in ms (kinds s) (afters s) t a m ≡ g .arcs)
+    (meetings-are : meetings-in ms (kinds s) (afters s) t a m ≡ g .meetings)
+    (once : (n : ℕ) → tally n (g .labels) ≤ 1)
+    (branch : every (branches (definitions-of s) g) (g .labels) ≡ true) where
+  -- there is room for its arcs and meetings
+  few-arcs : length (g .arcs) ≤ arc-room
+  few-arcs = omega (arith, ap length arcs-are, pairs-length 0 t 0 (min a arc-room))
+
+  few-meetings : length (g .meetings) ≤ meeting-room
+  few-meetings = omega (arith, ap length meetings-are, pairs-length 16384 t 0 (min m meeting-room))
+
+  -- the walk over the columns is the graph's
+  pub order-told : order-by ms (kinds s) (afters s) t a m ≡ order g
+  unfolding order-by
+  order-told =
+      rw arcs-are
+      (walked-told text s q ms g tells (all-fit-told text s q ms g tells once ∙ branch) few-arcs)
+
+  -- whose references are in range
+  inside : Within (λ n. n < reference-room) (order g)
+  unfolding marked
+  inside n i =
+      marked-inside ms (kinds s) (afters s) n (sym (labelled-told text s q ms g tells n) ∙ order-labelled g n i)
+
+  -- and have their numbers
+  given : Numbers (order g) (numbers (order g))
+  given = numbers-told (order g) (order-distinct g) inside
+
+  -- so the numbered arcs and meetings are the canonical ones
+  pub arcs-told : ((i j : ℕ) → between i j (g .arcs) ≤ 1)
+      → arcs-by ms (kinds s) (afters s) t a m ≡ canonical g .arcs
+  unfolding arcs-by
+  arcs-told few =
+      ap₂ (λ o as′. sorted (length o) (renumbered false (numbers o) as′)) order-told arcs-are
+      ∙ arcs-sorted g (numbers (order g)) given few
+
+  pub meetings-told : ((i j : ℕ) → between i j (g .meetings) + between j i (g .meetings) ≤ 1)
+      → meetings-by ms (kinds s) (afters s) t a m ≡ canonical g .meetings
+  unfolding meetings-by
+  meetings-told few =
+      ap₂ (λ o as′. sorted (length o) (renumbered true (numbers o) as′)) order-told meetings-are
+      ∙ meetings-sorted g (numbers (order g)) given few
+
+  -- the columns that places are worked out from
+  abbrev places : Columns
+  places = columns (kinds s) (owners s) (afters s) (roots s)
+
+  -- a numbered reference has the place of its mark's literal
+  place-is : (n : ℕ) → among n (order g) ≡ true → lookup n (g .labels) ≡ some (place-by places (at ms n))
+  unfolding mark-told
+  place-is n i =
+      tells .told n
+      ∙ go (eqb (at ms n) 0) refl (sym (labelled-told text s q ms g tells n) ∙ order-labelled g n i)
+    where
+      go : (b : Bool) → eqb (at ms n) 0 ≡ b → not b ≡ true
+          → choose b none (some (place-told (layout s) (at ms n))) ≡ some (place-by places (at ms n))
+      go true e h = let z : _≡_ {A = ℕ} 0 1 = cc in absurd (omega arith)
+      go false e h = ap some (mark-place s (at ms n) (eqb-false (at ms n) 0 e))
+
+  -- there is room for them
+  few-nodes : length (order g) ≤ reference-room
+  few-nodes = distinct-below reference-room (order g) (order-distinct g) inside
+
+  -- so the labels by the numbers are the canonical ones
+  labels-are : labels-told places (labels-out ms (kinds s) (afters s) t a m) 0
+      (min (length (order-by ms (kinds s) (afters s) t a m)) reference-room) ≡ canonical g .labels
+  unfolding labels-out canonical
+  labels-are =
+      let all : min (length (order g)) reference-room ≡ length (order g) = omega (arith, few-nodes) in
+      ap (λ o. labels-told places (laid (marks-by ms o)) 0 (min (length o) reference-room)) order-told
+      ∙ ap (labels-told places (laid (marks-by ms (order g))) 0) all
+      ∙ labels-numbered places (g .labels) ms (laid (marks-by ms (order g))) 0 (order g)
+      (λ i h.
+      ap (at (laid (marks-by ms (order g)))) (zero-add i)
+      ∙ laid-told (marks-by ms (order g)) (omega (arith, length-map (order g) (at ms), few-nodes)) i
+      ∙ map-at (at ms) (order g) i h)
+      place-is
+
+  -- the graph that the numbered columns tell is the canonical one
+  pub graph-told-canonical : ((i j : ℕ) → between i j (g .arcs) ≤ 1)
+      → ((i j : ℕ) → between i j (g .meetings) + between j i (g .meetings) ≤ 1)
+      → graph-told places (labels-out ms (kinds s) (afters s) t a m) (track-out ms (kinds s) (afters s) t a m)
+      (record {
+        nodes = length (order-by ms (kinds s) (afters s) t a m);
+        arcs = length (arcs-by ms (kinds s) (afters s) t a m);
+        meetings = length (meetings-by ms (kinds s) (afters s) t a m);
+      })
+      ≡ canonical g
+  unfolding graph-told track-out
+  graph-told-canonical few few-met =
+      let arcs = arcs-told few in
+      let meetings = meetings-told few-met in
+      let arcs-fit : length (arcs-by ms (kinds s) (afters s) t a m) ≤ arc-room =
+      omega (arith, ap length arcs, canonical-arcs-few g, few-arcs) in
+      let meetings-fit : length (meetings-by ms (kinds s) (afters s) t a m) ≤ meeting-room =
+      omega (arith, ap length meetings, canonical-meetings-few g, few-meetings) in
+      let long = length-replicate {A = ℕ} track-words 0 in
+      same-graph labels-are
+      (arcs-back (replicate track-words 0) long _ _ arcs-fit meetings-fit ∙ arcs)
+      (meetings-back (replicate track-words 0) long _ _ arcs-fit meetings-fit ∙ meetings)
