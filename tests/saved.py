@@ -16,6 +16,7 @@ from independent import (
 from rules import ARC_ROOM, MEETING_ROOM, NODE_ROOM, node_bytes, refusal_line, text_of
 
 PATH_ROOM = 64
+REREAD_ROOM = 262_144  # bytes of input that the program reread takes
 
 NODE, ARC, MEETING, LAST = 0x31, 0x32, 0x33, 0x3F
 
@@ -174,6 +175,8 @@ def graph_text(graph):
 
 def reread_listing(given):
     """The refusal of the table or of the saved text behind it, or the text of the graph that was read."""
+    if len(given) > REREAD_ROOM:
+        return text_of([refusal_line(Refusal(6, 0))]).encode("ascii")
     table_text, saved = cut_input(given)
     table = judge_table(table_text)
     graph = table if isinstance(table, Refusal) else read_saved(table, saved)

@@ -5,8 +5,8 @@ use mathlib.Core.Path.{_≡_, refl, ap, _∙_}
 use mathlib.Core.List.{List, [], _∷_, _++_, append-assoc}
 use native.Mathlib.Omega.{arith}
 use native.Mathlib.Nat.{add-zero, zero-add}
-use lib.ListN.{length, getD, take, drop, List·getD-append}
-use lib.Seq.{sets, sets-eq, length-sets, length-take-le, getD-append-add}
+use lib.ListN.{length, getD, set, take, drop, List·getD-append}
+use lib.Seq.{sets, sets-eq, length-sets, length-take-le, getD-append-add, getD-set-other}
 use borrow.Author.Tests.{lt-ltb}
 use Rattle.report.specs.Track.{Pair, pair}
 use Rattle.control.specs.Words.{track-words, track-word}
@@ -93,3 +93,21 @@ pairs-back base w ps long fits =
     let same : base + 2 * 0 + j ≡ base + j = omega arith in
     ap (λ (n : ℕ). getD (sets w base (flat ps)) n 0) same
     ∙ put-back w base (flat ps) j (omega (arith, flat-length ps)) (omega (arith, flat-length ps)))
+
+-- words that are put behind others leave these
+front-stays : (w : List ℕ) (b : ℕ) (vs : List ℕ) (i : ℕ) → i < b → getD (sets w b vs) i 0 ≡ getD w i 0
+front-stays w b [] i h = refl
+front-stays w b (v ∷ vs) i h =
+    front-stays (set w b v) (suc b) vs i (omega arith) ∙ getD-set-other w b i v 0 (λ e. omega arith)
+
+-- and the pairs that are read from them
+pub pairs-stay : (base : ℕ) (w : List ℕ) (b : ℕ) (vs : List ℕ) (i c : ℕ) → base + 2 * (i + c) ≤ b
+    → pairs base (sets w b vs) i c ≡ pairs base w i c
+unfolding pairs track-word
+pairs-stay base w b vs i zero h = refl
+pairs-stay base w b vs i (suc c) h =
+    rw (
+      front-stays w b vs (base + 2 * i) (omega arith),
+      front-stays w b vs (base + 2 * i + 1) (omega arith),
+      pairs-stay base w b vs (suc i) c (omega arith),
+    )

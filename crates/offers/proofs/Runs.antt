@@ -20,7 +20,7 @@ use Rattle.sets.proofs.Told.{same-members}
 use Rattle.offers.specs.declared.Offered.{Offered}
 use Rattle.offers.specs.declared.Status.{Status}
 use Rattle.offers.specs.declared.Status.the-variants.{Live, Ended, Stuck}
-use Rattle.offers.specs.Code.{Offer, seen, settled, ended, at, offered, some-of, standing, status}
+use Rattle.offers.specs.Code.{Offer, seen, settled, ended, offered, some-of, standing, status}
 use Rattle.offers.specs.Told.{offer-of, Low, Controls, starts, stands, Tells, Covers, status-of}
 use Rattle.offers.proofs.Returns.{ended-not}
 use Rattle.offers.proofs.Standing.{nested, beyond-bound, ended-told, offers-told}

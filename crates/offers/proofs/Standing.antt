@@ -16,11 +16,11 @@ use Rattle.places.specs.Place.{Place}
 use Rattle.places.specs.Code.{look}
 use Rattle.places.proofs.Ways.{look-in}
 use Rattle.report.specs.Process.{Process, leaf, prefix, internal, split, sequence, Ω, ⊥′, Split, choice, together}
-use Rattle.report.specs.Process.{untouched, cells}
+use Rattle.report.specs.Process.{cells}
 use Rattle.report.specs.Step.{at-Ω}
 use Rattle.report.specs.Offers.{offers-τ, offers-✓, offers-event}
 use Rattle.plans.specs.Plan.{Layout, kind, second, around}
-use Rattle.control.specs.Control.{state, term, frame, first, second-side, entered, at-end}
+use Rattle.control.specs.Control.{state, term, frame, first, second-side, at-end}
 use Rattle.control.specs.Control.{inside, split-kind, split-set, Around, Untouched, Rests, Splits, Holds}
 use Rattle.offers.specs.Code.{Offer, unseen, settled, combined, of-term, levels, followed}
 use Rattle.offers.specs.Code.{bound, ended, at}

@@ -13,7 +13,7 @@ use lib.Dec.{eqb}
 use borrow.Author.Tests.{eqb-true, eqb-false}
 use Rattle.lines.specs.Line.{choose}
 use Rattle.terms.specs.Term.{Term}
-use Rattle.report.specs.Process.{Address, Process, cells}
+use Rattle.report.specs.Process.{Address, cells}
 use Rattle.report.specs.Track.{Outcome}
 use Rattle.report.specs.Tracking.{Tracks}
 use Rattle.report.specs.Step.{Stepped, step}
@@ -25,11 +25,9 @@ use Rattle.report.proofs.Climbing.{reached-climbed}
 use Rattle.report.proofs.Ranged.{reached-ranged, ranged-calls}
 use Rattle.plans.specs.Plan.{Layout}
 use Rattle.control.specs.Control.{state, resting}
-use Rattle.control.specs.Control as Control
 use Rattle.weighing.proofs.Told.{From, wrapped}
 use Rattle.stepping.specs.Take.{take}
 use Rattle.stepping.specs.Leaves.{Done, called}
-use Rattle.taking.proofs.Writing.{Words}
 use Rattle.taking.proofs.Going.{at-words, Sound, Fits, Ready, Goes}
 use Rattle.report.proofs.Ranged.{Calls}
 use Rattle.taking.proofs.Sideless.{Sideless}

@@ -1,7 +1,7 @@
 -- What the doors promise of a run, from what they promise of the words: `start-holds`, `step-answered` and `step-holds`.
 -- Assumes nothing.
 use Prim.Native.Nat.{ℕ}
-use mathlib.Core.Path.{_≡_, sym, _∙_}
+use mathlib.Core.Path.{_≡_, _∙_}
 use mathlib.Core.List.{List}
 use Rattle.runs.specs.Code.{fresh-nodes, fresh-track, fresh-counters, stepped}
 use Rattle.runs.specs.Held.{Keeps, Begins}

@@ -5,12 +5,10 @@
 use Prim.Native.Nat.{ℕ, _+_, _-_, _≤_, _<_}
 use mathlib.Core.Path.{_≡_}
 use mathlib.Core.List.{List, []}
-use mathlib.Core.Option.{Option, some}
 use lib.ListN.{length}
-use Rattle.terms.specs.Term.{Term}
-use Rattle.report.specs.Process.{Event, ✓, Address, Process, Ω, cells}
+use Rattle.report.specs.Process.{✓, Process, Ω, cells}
 use Rattle.report.specs.Track.{At, Outcome}
-use Rattle.report.specs.Step.{Stepped, step}
+use Rattle.report.specs.Step.{Stepped}
 use Rattle.report.proofs.Climbing.{Up}
 use Rattle.report.proofs.Marked.{Fit, past}
 use Rattle.report.proofs.Holding.{held}

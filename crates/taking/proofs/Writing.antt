@@ -4,7 +4,7 @@
 use Prim.Native.Nat.{ℕ, _+_, _≤_, _<_}
 use mathlib.Core.Path.{_≡_, refl, sym, ap, subst, _∙_}
 use mathlib.Core.Bool.{Bool, true, false}
-use mathlib.Core.List.{List, [], _∷_, _++_, append-assoc, append-nil}
+use mathlib.Core.List.{List, [], _∷_, _++_, append-assoc}
 use mathlib.Core.Option.{Option, none, some}
 use native.Mathlib.Omega.{arith}
 use lib.ListN.{length, length-append}
@@ -13,7 +13,7 @@ use Rattle.lines.specs.Line.{choose}
 use Rattle.places.specs.Place.{Place}
 use Rattle.report.specs.Track.{Label, Pair, lookup}
 use Rattle.plans.specs.Plan.{Layout}
-use Rattle.control.proofs.Framed.{Same, Lasts, Lasting}
+use Rattle.control.proofs.Framed.{Same, Lasting}
 use Rattle.stepping.specs.Views.{arcs-of, meetings-of, event-nodes, marked, first-of}
 use Rattle.stepping.specs.declared.Tally.{Tally}
 

@@ -6,6 +6,7 @@
 -- counts; `Tracked`, what a run's track is as a graph; `FrameBytes`, a frame and its bytes; `DueLines`, the frames
 -- that are due; `Spelled`, a graph and its text; `Accepted`, the reader's shape of a run's track; `Refusals`, those
 -- of a text. The theorems are in `Kept`, what saving and reading keep, and `Exactly`, which runs save equal bytes.
+-- `Cases` has document 01's saved texts and the reader's refusals, by computation.
 pub mod Walking
 pub mod Ordered
 pub mod References
@@ -25,3 +26,4 @@ pub mod Accepted
 pub mod Refusals
 pub mod Kept
 pub mod Exactly
+pub mod Cases

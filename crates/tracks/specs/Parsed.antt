@@ -1,5 +1,5 @@
 -- What a saved text says, line by line. Document 01, 'Lines' (Saved track) and 'Numbers of refusal', 1, 2 and 3.
-use Prim.Native.Nat.{ℕ, zero, suc, _+_}
+use Prim.Native.Nat.{ℕ, _+_}
 use mathlib.Core.Bool.{Bool, _&&_}
 use mathlib.Core.List.{List, [], _∷_, _++_}
 use mathlib.Core.Option.{Option, none, some}

@@ -4,7 +4,9 @@ mod columns;
 mod links;
 mod walking;
 
+pub use columns::after_of;
 pub use columns::at_most;
+pub use columns::kind_of;
 pub use columns::reference_word;
 pub use columns::wide;
 pub use links::link;

@@ -1,0 +1,6 @@
+-- The demands through the doors: `SavedBytes`, what a save leaves in a slice; `Exchanged`, two steps in either order;
+-- `Cases`, document 01's cases of two orders; `Reread`, a saved track read and written again.
+pub mod SavedBytes
+pub mod Exchanged
+pub mod Cases
+pub mod Reread

@@ -1,0 +1,1 @@
+// The customer's demands, through the doors: laws alone.

@@ -1,0 +1,36 @@
+-- `reading::read_track` meets its contract: what is judged is the answer, the columns are handed over by it, and the scratch
+-- is cleared. Assumes nothing.
+use mathlib.Core.Path.{refl, _∙_}
+use borrow.Author.Needs.{needs}
+use Rattle.reading.proofs.Promises.{handed-over, reads}
+use Rattle.reading.proofs.read_track.Statement.{statement}
+use Rattle.reading.proofs.read_track.Tie as tie
+
+judge-requires : tie.Need-judge-requires
+judge-requires c κs = search needs
+
+hand-over-requires : tie.Need-hand-over-requires
+hand-over-requires c κs = search needs
+
+returns : tie.Need-returns
+returns c =
+    let judged = c .before .before .before .before .before .before .before .before .before .judge .ensures in
+    let over = c .hand-over .ensures in
+    let left = handed-over _ _ _ _ _ _ _ _ _ (judged .0) (judged .1) in
+    let labels = over .0 ∙ left .0 in
+    let graph = over .1 .0 ∙ left .1 in (
+      judged .0,
+      (
+        labels,
+        (
+          graph,
+          (
+            reads _ _ _ _ _ _ _ _ _ _ _ (judged .0) labels graph,
+            (over .1 .1 .0, (over .1 .1 .1, (refl, (refl, (refl, refl))))),
+          ),
+        ),
+      ),
+    )
+
+pub read-track-spec : {M : Type 1} → statement M
+read-track-spec = tie.close (tie.spec judge-requires hand-over-requires returns)

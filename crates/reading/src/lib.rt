@@ -1,0 +1,248 @@
+// Saved tracks read: a text is judged line by line, its nodes' places become marks, and the reader's rules are tested on the
+// marks. It relies on the line finder, on the columns of the table check, and on the numbering walk.
+mod finding;
+mod framing;
+mod numbers;
+mod rules;
+
+use framing::Lines;
+use framing::Opened;
+use framing::first_line;
+use framing::last_lines;
+use framing::read_nodes;
+use framing::read_pairs;
+use rules::has_shape;
+use walks::Counts;
+ghost use mathlib.Core.Path.{_≡_};
+ghost use lib.ListN.{replicate};
+ghost use Rattle.tracks.specs.Parsed.{parsed};
+ghost use Rattle.reading.specs.Rules as of;
+ghost use Rattle.reading.specs.Kept.{Reads};
+ghost use Rattle.reading.specs.Phases.{failed, stopped};
+
+// First bytes of frames.
+const ARC: u8 = 50;
+
+const MEETING: u8 = 51;
+
+// Where the meetings begin in a track.
+const MEETINGS_FROM: usize = 16384;
+
+// The number of the refusal where a rule of shape is broken, which is told with line 0.
+const BROKEN_SHAPE: u8 = 13;
+
+// What reading comes to: the counts of the graph that was read; or a refusal's number and line.
+pub enum Read {
+    Accepted(Counts),
+    Refused { number: u8, line: usize },
+}
+
+// Reads a saved text against a table of so many definitions: the marks of its nodes by number go to `labels`, its arcs and
+// meetings to `graph`; a refusal leaves both as they were. The other six are scratch, and all 0 afterwards.
+pub fn read_track(
+    text: &[u8],
+    definitions: usize,
+    kinds: &[u8; 1024],
+    payloads: &[u64; 1024],
+    after: &[u16; 1024],
+    roots: &[u16; 64],
+    labels: &mut [u16; 8193],
+    graph: &mut [u16; 28672],
+    marks: &mut [u16; 8193],
+    track: &mut [u16; 28672],
+    sides: &mut [u16; 16388],
+    pending: &mut [u16; 16388],
+    numbers: &mut [u16; 8193],
+    walked: &mut [u16; 8193],
+) -> Read
+    ensures { λ r. ⌜ r ≡ of.answer (of.outcome (now (kinds .entry)) (now (payloads .entry)) (now (after .entry))
+        (now (roots .entry)) definitions (now (text .entry))) ⌝ }
+    ensures { λ _. ⌜ now (labels .exit) ≡ of.labels-left (now (kinds .entry)) (now (payloads .entry))
+        (now (after .entry)) (now (roots .entry)) (of.outcome (now (kinds .entry)) (now (payloads .entry))
+        (now (after .entry)) (now (roots .entry)) definitions (now (text .entry))) (now (labels .entry)) ⌝ }
+    ensures { λ _. ⌜ now (graph .exit) ≡ of.graph-left (of.outcome (now (kinds .entry)) (now (payloads .entry))
+        (now (after .entry)) (now (roots .entry)) definitions (now (text .entry))) (now (graph .entry)) ⌝ }
+    ensures { λ r. ⌜ Reads definitions (now (kinds .entry)) (now (payloads .entry)) (now (after .entry))
+        (now (roots .entry)) (now (text .entry)) (now (labels .entry)) (now (graph .entry))
+        r (now (labels .exit)) (now (graph .exit)) ⌝ }
+    ensures { λ _. ⌜ now (marks .exit) ≡ replicate 8193 0 ⌝ }
+    ensures { λ _. ⌜ now (track .exit) ≡ replicate 28672 0 ⌝ }
+    ensures { λ _. ⌜ now (sides .exit) ≡ replicate 16388 0 ⌝ }
+    ensures { λ _. ⌜ now (pending .exit) ≡ replicate 16388 0 ⌝ }
+    ensures { λ _. ⌜ now (numbers .exit) ≡ replicate 8193 0 ⌝ }
+    ensures { λ _. ⌜ now (walked .exit) ≡ replicate 8193 0 ⌝ }
+{
+    let judged = judge(
+        text,
+        definitions,
+        kinds,
+        payloads,
+        after,
+        roots,
+        marks,
+        track,
+        sides,
+        pending,
+        numbers,
+        walked,
+    );
+    *sides = [0u16; 16388];
+    *pending = [0u16; 16388];
+    *numbers = [0u16; 8193];
+    *walked = [0u16; 8193];
+    hand_over(judged, labels, graph, marks, track);
+    judged
+}
+
+// Hands an accepted graph over, and leaves the reader's own columns all 0.
+fn hand_over(
+    judged: Read,
+    labels: &mut [u16; 8193],
+    graph: &mut [u16; 28672],
+    marks: &mut [u16; 8193],
+    track: &mut [u16; 28672],
+)
+    ensures { λ _. ⌜ now (labels .exit) ≡ of.handed judged (now (marks .entry)) (now (labels .entry)) ⌝ }
+    ensures { λ _. ⌜ now (graph .exit) ≡ of.handed judged (now (track .entry)) (now (graph .entry)) ⌝ }
+    ensures { λ _. ⌜ now (marks .exit) ≡ replicate 8193 0 ⌝ }
+    ensures { λ _. ⌜ now (track .exit) ≡ replicate 28672 0 ⌝ }
+{
+    if let Read::Accepted(_) = judged {
+        *labels = *marks;
+        *graph = *track;
+    }
+    *marks = [0u16; 8193];
+    *track = [0u16; 28672];
+}
+
+// Judges a text: its lines first, and then the shape of its graph.
+fn judge(
+    text: &[u8],
+    definitions: usize,
+    kinds: &[u8; 1024],
+    payloads: &[u64; 1024],
+    after: &[u16; 1024],
+    roots: &[u16; 64],
+    labels: &mut [u16; 8193],
+    graph: &mut [u16; 28672],
+    sides: &mut [u16; 16388],
+    pending: &mut [u16; 16388],
+    numbers: &mut [u16; 8193],
+    walked: &mut [u16; 8193],
+) -> Read
+    ensures { λ r. ⌜ r ≡ of.answer (of.outcome (now (kinds .entry)) (now (payloads .entry)) (now (after .entry))
+        (now (roots .entry)) definitions (now (text .entry))) ⌝ }
+    ensures { λ _. ⌜ of.Held (now (kinds .entry)) (now (after .entry)) (now (roots .entry))
+        (of.outcome (now (kinds .entry)) (now (payloads .entry)) (now (after .entry)) (now (roots .entry))
+        definitions (now (text .entry))) (now (labels .exit)) (now (graph .exit)) ⌝ }
+{
+    let read = read_lines(text, definitions, kinds, after, roots, labels, graph);
+    let Read::Accepted(counts) = read else {
+        return read;
+    };
+    let fits = has_shape(
+        counts.nodes,
+        counts.arcs,
+        counts.meetings,
+        kinds,
+        payloads,
+        after,
+        labels,
+        graph,
+        sides,
+        pending,
+        numbers,
+        walked,
+    );
+    if !fits {
+        return Read::Refused {
+            number: BROKEN_SHAPE,
+            line: 0,
+        };
+    }
+    read
+}
+
+// Reads all lines: the marks and pairs that they say go to columns that are all 0 before.
+fn read_lines(
+    text: &[u8],
+    definitions: usize,
+    kinds: &[u8; 1024],
+    after: &[u16; 1024],
+    roots: &[u16; 64],
+    labels: &mut [u16; 8193],
+    graph: &mut [u16; 28672],
+) -> Read
+    ensures { λ r. ⌜ r ≡ of.answer (parsed definitions (now (text .entry))) ⌝ }
+    ensures { λ _. ⌜ of.Held (now (kinds .entry)) (now (after .entry)) (now (roots .entry))
+        (parsed definitions (now (text .entry))) (now (labels .exit)) (now (graph .exit)) ⌝ }
+{
+    *labels = [0u16; 8193];
+    *graph = [0u16; 28672];
+    let opened = first_line(text);
+    let Opened::Track {
+        nodes,
+        arcs,
+        meetings,
+        next,
+    } = opened
+    else {
+        return refused_first(opened);
+    };
+    let by_nodes = read_nodes(text, next, nodes, definitions, kinds, after, roots, labels);
+    let Lines::Goes(behind_nodes) = by_nodes else {
+        return refused(by_nodes);
+    };
+    let by_arcs = read_pairs(ARC, 0, text, behind_nodes, nodes + 2, arcs, nodes, graph);
+    let Lines::Goes(behind_arcs) = by_arcs else {
+        return refused(by_arcs);
+    };
+    let line = nodes + arcs + 2;
+    let by_meetings = read_pairs(
+        MEETING,
+        MEETINGS_FROM,
+        text,
+        behind_arcs,
+        line,
+        meetings,
+        nodes,
+        graph,
+    );
+    let Lines::Goes(behind_meetings) = by_meetings else {
+        return refused(by_meetings);
+    };
+    let by_last = last_lines(text, behind_meetings, line + meetings);
+    let Lines::Goes(_) = by_last else {
+        return refused(by_last);
+    };
+    Read::Accepted(Counts {
+        nodes,
+        arcs,
+        meetings,
+    })
+}
+
+// The refusal of line 1.
+fn refused_first(opened: Opened) -> Read
+    ensures { λ r. ⌜ r ≡ failed opened ⌝ }
+{
+    match opened {
+        Opened::Track {
+            nodes: _,
+            arcs: _,
+            meetings: _,
+            next: _,
+        } => Read::Refused { number: 0, line: 1 },
+        Opened::Fails(number) => Read::Refused { number, line: 1 },
+    }
+}
+
+// The refusal of a later line.
+fn refused(lines: Lines) -> Read
+    ensures { λ r. ⌜ r ≡ stopped lines ⌝ }
+{
+    match lines {
+        Lines::Goes(_) => Read::Refused { number: 0, line: 0 },
+        Lines::Stops { number, line } => Read::Refused { number, line },
+    }
+}

@@ -1,0 +1,60 @@
+-- `reread::reread_input` does nothing undefined: the table's text is a part of the input, since it ends within it.
+-- Assumes nothing but what `io` does.
+use mathlib.Core.Path.{sym}
+use lib.Seq.{length-take-le}
+use borrow.Author.Needs.{needs}
+use Rattle.reread.proofs.reread_input.Statement.{statement}
+use Rattle.reread.proofs.reread_input.Tie as tie
+
+table-end-requires : tie.Need-table-end-requires
+table-end-requires c κs = search needs
+
+slice-aggregate-check : tie.Need-slice-aggregate-check
+slice-aggregate-check c = sym (length-take-le _ _ (c .before .table-end .ensures))
+
+check-requires : tie.Need-check-requires
+check-requires c κs = search needs
+
+enum-known-checked : tie.Need-enum-known-checked
+enum-known-checked c = search needs
+
+tell-refusal-requires : tie.Need-tell-refusal-requires
+tell-refusal-requires c κs = search needs
+
+enum-known-checked-2 : tie.Need-enum-known-checked-2
+enum-known-checked-2 c = search needs
+
+sub-reread-track : tie.Need-sub-reread-track
+sub-reread-track c = search needs
+
+part-reread-track-start : tie.Need-part-reread-track-start
+part-reread-track-start c = search needs
+
+part-reread-track-end : tie.Need-part-reread-track-end
+part-reread-track-end c = search needs
+
+reread-track-requires : tie.Need-reread-track-requires
+reread-track-requires c κs = search needs
+
+returns : tie.Need-returns
+returns c = search needs
+
+returns-2 : tie.Need-returns-2
+returns-2 c = search needs
+
+pub reread-input-spec : {M : Type 1} → statement M
+reread-input-spec =
+    tie.close
+    (tie.spec
+    table-end-requires
+    slice-aggregate-check
+    check-requires
+    enum-known-checked
+    tell-refusal-requires
+    enum-known-checked-2
+    sub-reread-track
+    part-reread-track-start
+    part-reread-track-end
+    reread-track-requires
+    returns
+    returns-2)
