@@ -12,9 +12,9 @@ use Rattle.report.specs.Process.{Event, Address, together, Process}
 use Rattle.report.specs.Track.{Label, Pair, pair, At, Outcome, Entered, first-eval, inside, around}
 use Rattle.report.specs.Tracking.{Shows, Tracks}
 use Rattle.report.proofs.Outward.{draws}
-use Rattle.report.proofs.Climbing.{Up, climbs}
 use Rattle.exchange.specs.Renamed.{renamed-side, renamed}
 use Rattle.exchange.proofs.References.{renamed-back}
+use Rattle.exchange.proofs.Ends.{Before, draws-before}
 use Rattle.exchange.proofs.RenamedSteps.{on-label, on-pair, Moves, renamed-outcome}
 use Rattle.exchange.proofs.Blocks.{block-swap, swap-below, swap-first, swap-back, swap-apart}
 use Rattle.exchange.proofs.Hands.{Hand, left, right, opposite, digit, sided, turned, sided-renamed}
@@ -79,14 +79,13 @@ module _ (ts : List Term) (w : Place) (x : ℕ) (s : At) where
       let o : Outcome = by-side h w x m n Q s r d in
       let g = o .arcs in
       let below = stands-below z in
-      let climb = climbs ts t (z .rooted) (z .up) below in
-      let up : Up (k + s .fresh) g = subst (λ f. Up f g) at (climb .up) in
+      let before : Before (k + s .fresh) g = subst (λ f. Before f g) at (draws-before ts t) in
       let (own, whole) = other-under w (together x) m n P Q s h z in
       let outward = draws ts t .outward in
-      let inner = steps-later φ k s g apart fixes below (z .up) outward up ts n m
+      let inner = steps-later φ k s g apart fixes below (z .ends) outward before ts n m
       (r .reference) w t′ own whole moves in
       let more : first-eval n m w s .fresh ≤ q .fresh = draws ts t′ .more in
-      let entry = entering-later φ k s g apart fixes below (z .up) outward up n m (r .reference) w own
+      let entry = entering-later φ k s g apart fixes below (z .ends) outward before n m (r .reference) w own
       (q .fresh) moves more in
       let step = side-tracks ts (opposite h) w x n (some (r .reference)) Q (r .process) (again k s g)
       (renamed-outcome φ k q) e inner v in

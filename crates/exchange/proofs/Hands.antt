@@ -1,23 +1,22 @@
 -- The two sides of a parallel as one: a law about a side is made once, over the hand that it is on. The rules
--- by 1 and by 2 are one rule, and what a run keeps of a process it keeps of the side that is stepped. Assumes
+-- by 1 and by 2 are one rule, and what is asked of a process holds of the side that is stepped too. Assumes
 -- nothing.
-use Prim.Native.Nat.{ℕ, suc, _+_, _≤_, _<_}
-use mathlib.Core.Path.{_≡_, refl, sym, subst}
+use Prim.Native.Nat.{ℕ, _≤_, _<_}
+use mathlib.Core.Path.{_≡_, refl}
 use mathlib.Core.Bool.{Bool}
-use mathlib.Core.List.{List, [], _∷_, _++_, append-nil}
+use mathlib.Core.List.{List, _∷_}
 use mathlib.Core.Option.{Option, none, some}
 use native.Mathlib.Omega.{arith}
 use Rattle.terms.specs.Term.{Term}
 use Rattle.places.specs.Place.{Place}
 use Rattle.report.specs.Process.{Event, Digit, one, two, Address, Split, together, Process, split, sequence}
-use Rattle.report.specs.Track.{Pair, pair, At, Outcome, first-eval, inside, around}
+use Rattle.report.specs.Track.{At, Outcome, first-eval, inside, around}
 use Rattle.report.specs.Tracking.{Shows, Tracks, synchronized-parallelism-1, synchronized-parallelism-2}
 use Rattle.report.proofs.Marked.{past, past-drawn, next-past, Unentered, By-side, Fit, side-fit}
 use Rattle.report.proofs.Holding.{held, side-held, split-held, unentered-held}
-use Rattle.report.proofs.Drawn.{Rooted, rooted-more}
-use Rattle.report.proofs.Climbing.{Up}
 use Rattle.exchange.specs.Renamed.{renamed-side, renamed}
 use Rattle.exchange.proofs.References.{SideUnder, Under, Held, stands-held, held-under}
+use Rattle.exchange.proofs.Ends.{Ends, entered-ends}
 
 pub data Hand : Type 0 where
   left : Hand
@@ -74,12 +73,12 @@ module _ (ts : List Term) where
   side-tracked left a w x m n P Q s o (synchronized-parallelism-1 {r = r} {e = e} t v) = (r, e, t, v, refl)
   side-tracked right a w x m n P Q s o (synchronized-parallelism-2 {r = r} {e = e} t v) = (r, e, t, v, refl)
 
--- what a run keeps of a process and where it stands
+-- what an exchange asks of a process and where it stands: no reference is held twice or before it is drawn, and
+-- both ends of every arc have been drawn
 pub record Stands (P : Process) (s : At) : Type 0 where
   pub fit : Fit P
   pub holds : Held (s .fresh) (s .reference) P
-  pub rooted : Rooted (s .arcs) P
-  pub up : Up (s .fresh) (s .arcs)
+  pub ends : Ends (s .fresh) (s .arcs)
 
 -- so its references have been drawn
 pub stands-below : {P : Process} {s : At} → Stands P s → s .reference < s .fresh
@@ -94,17 +93,6 @@ pub stands-under : {P : Process} {s : At} → Stands P s → Under (s .fresh) P
 stands-under {P = P} {s = s} k = held-under (s .fresh) (s .reference) P (k .fit) (k .holds)
 
 -- entering a side
-up-on : (m f : ℕ) (g : List Pair) → m < f → Up f g → Up (suc f) (g ++ (pair m f ∷ []))
-up-on m f [] l u = (l, omega arith, tt)
-up-on m f (a ∷ g) l u = (u .0, omega (arith, u .1), up-on m f g l (u .2))
-
-entered-up : (own other : Option ℕ) (w : Place) (s : At) → s .reference < s .fresh → Up (s .fresh) (s .arcs)
-    → Up (first-eval own other w s .fresh) (s .arcs ++ first-eval own other w s .arcs)
-unfolding first-eval
-entered-up (some n) other w s l u = subst (Up (s .fresh)) (sym (append-nil (s .arcs))) u
-entered-up none (some o) w s l u = up-on (s .reference) (s .fresh) (s .arcs) l u
-entered-up none none w s l u = up-on (s .reference) (s .fresh) (s .arcs) l u
-
 entered-held : (n : ℕ) (own other : Option ℕ) (w : Place) (s : At) (P : Process)
     → By-side own (Unentered P) (Fit P)
     → side-held n own P ≤ past n (s .fresh)
@@ -120,10 +108,6 @@ module _ (w : Place) (k : Split) (m n : Option ℕ) (P Q : Process) (s : At) whe
   side-fits left f = f .0
   side-fits right f = f .1
 
-  side-rooted : (h : Hand) → Rooted (s .arcs) (sided h w k m n P Q) → Rooted (s .arcs) P
-  side-rooted left f = f .2
-  side-rooted right f = f .3
-
   side-few : (h : Hand) → Held (s .fresh) (s .reference) (sided h w k m n P Q) → (i : ℕ)
       → side-held i m P ≤ past i (s .fresh)
   side-few left f i =
@@ -138,8 +122,7 @@ module _ (w : Place) (k : Split) (m n : Option ℕ) (P Q : Process) (s : At) whe
   stands-side h z = record {
     fit = side-fit m P (side-fits h (z .fit));
     holds = λ i. entered-held i m n w s P (side-fits h (z .fit)) (side-few h (z .holds) i);
-    rooted = rooted-more (s .arcs) (first-eval m n w s .arcs) P (side-rooted h (z .rooted));
-    up = entered-up m n w s (stands-below z) (z .up);
+    ends = entered-ends m n w s (stands-below z) (z .ends);
   }
 
   -- it stands by the other side too
@@ -155,5 +138,4 @@ module _ (w : Place) (k : Split) (m n : Option ℕ) (P Q : Process) (s : At) whe
 -- a sequence's left
 pub stands-left : (w : Place) (c : Bool) (P Q : Process) (s : At) → Stands (sequence w c P Q) s → Stands P s
 unfolding held
-stands-left w c P Q s z =
-    record { fit = z .fit .0; holds = z .holds; rooted = z .rooted .0; up = z .up }
+stands-left w c P Q s z = record { fit = z .fit .0; holds = z .holds; ends = z .ends }

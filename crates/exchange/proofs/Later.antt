@@ -16,20 +16,20 @@ use Rattle.report.specs.Process.{Address, Process}
 use Rattle.report.specs.Track.{Pair, pair, At, Outcome, Entered, first-eval, inside, leads, parents}
 use Rattle.report.specs.Tracking.{Tracks}
 use Rattle.report.proofs.Outward.{Outward, draws, entering-draws}
-use Rattle.report.proofs.Climbing.{Up}
 use Rattle.exchange.specs.Renamed.{renamed-side}
 use Rattle.exchange.proofs.References.{SideUnder, Under, under-more, renamed-fixed}
+use Rattle.exchange.proofs.Ends.{Ends, Before}
 use Rattle.exchange.proofs.RenamedSteps.{on-pair, Moves, Alike, alike-append, alike-renamed}
 use Rattle.exchange.proofs.RenamedSteps.{alike-more}
 use Rattle.exchange.proofs.RenamedSteps.{renamed-outcome, tracks-renamed}
 
--- arcs below f are fixed by a map that fixes what is below f
-pub arcs-fixed : (φ : ℕ → ℕ) (f : ℕ) → ((n : ℕ) → n < f → φ n ≡ n) → (g : List Pair) → Up f g
+-- pairs with both ends below f are fixed by a map that fixes what is below f
+pub pairs-fixed : (φ : ℕ → ℕ) (f : ℕ) → ((n : ℕ) → n < f → φ n ≡ n) → (g : List Pair) → Ends f g
     → map (on-pair φ) g ≡ g
-arcs-fixed φ f fixes [] u = refl
-arcs-fixed φ f fixes (a ∷ g) u =
-    ap₂ (λ b h. b ∷ h) (ap₂ pair (fixes (a .from) (omega (arith, u .0, u .1))) (fixes (a .to) (u .1)))
-    (arcs-fixed φ f fixes g (u .2))
+pairs-fixed φ f fixes [] u = refl
+pairs-fixed φ f fixes (a ∷ g) u =
+    ap₂ (λ b h. b ∷ h) (ap₂ pair (fixes (a .from) (u .0)) (fixes (a .to) (u .1)))
+    (pairs-fixed φ f fixes g (u .2))
 
 -- where a one-to-one map fixes what is below f, and moves on what is drawn from there
 module _ (φ : ℕ → ℕ) (d f : ℕ) (apart : (n m : ℕ) → φ n ≡ φ m → n ≡ m) (fixes : (n : ℕ) → n < f → φ n ≡ n)
@@ -49,18 +49,18 @@ module _ (φ : ℕ → ℕ) (d f : ℕ) (apart : (n m : ℕ) → φ n ≡ φ m �
           ne-eqb (φ n) j (λ p. omega (arith, p, moves n high u, high, l))
 
   -- so arcs to it make no parents
-  past-alike : (h : List Pair) → Outward f h → Up (d + f) h → Alike φ b [] h
+  past-alike : (h : List Pair) → Outward f h → Before (d + f) h → Alike φ b [] h
   unfolding parents
   past-alike [] o u m n v v′ k = refl
   past-alike (a ∷ h) o u m n v v′ k =
-      rw (leads-past m (a .to) v (o .0) (u .1), leads-past n (a .to) v′ (o .0) (u .1))
-      (past-alike h (o .1) (u .2) m n v v′ k)
+      rw (leads-past m (a .to) v (o .0) (u .0), leads-past n (a .to) v′ (o .0) (u .0))
+      (past-alike h (o .1) (u .1) m n v v′ k)
 
   -- and leave those that there were
-  more-alike : (g h : List Pair) → Up f g → Outward f h → Up (d + f) h → Alike φ b g (g ++ h)
+  more-alike : (g h : List Pair) → Ends f g → Outward f h → Before (d + f) h → Alike φ b g (g ++ h)
   more-alike g h v o u =
       subst (λ k. Alike φ b k (g ++ h)) (append-nil g)
-      (subst (λ k. Alike φ b (g ++ []) (k ++ h)) (arcs-fixed φ f fixes g v)
+      (subst (λ k. Alike φ b (g ++ []) (k ++ h)) (pairs-fixed φ f fixes g v)
       (alike-append φ b g (map (on-pair φ) g) [] h (alike-renamed φ b apart g) (past-alike h o u)))
 
 -- an entering where the operator's node has been labelled
@@ -74,8 +74,8 @@ again d s h = record { reference = s .reference; fresh = d + s .fresh; arcs = s 
 
 -- from where s stands; h are the arcs made meanwhile
 module _ (φ : ℕ → ℕ) (d : ℕ) (s : At) (h : List Pair) (apart : (n m : ℕ) → φ n ≡ φ m → n ≡ m)
-    (fixes : (n : ℕ) → n < s .fresh → φ n ≡ n) (below : s .reference < s .fresh) (up : Up (s .fresh) (s .arcs))
-    (outward : Outward (s .fresh) h) (up′ : Up (d + s .fresh) h) where
+    (fixes : (n : ℕ) → n < s .fresh → φ n ≡ n) (below : s .reference < s .fresh)
+    (ends : Ends (s .fresh) (s .arcs)) (outward : Outward (s .fresh) h) (before : Before (d + s .fresh) h) where
   -- entering the side then
   pub entering-later : (own other : Option ℕ) (o : ℕ) (w : Place) → SideUnder (s .fresh) own → (b : ℕ)
       → Moves φ d b (s .fresh) → first-eval own other w s .fresh ≤ b
@@ -98,7 +98,7 @@ module _ (φ : ℕ → ℕ) (d : ℕ) (s : At) (h : List Pair) (apart : (n m : �
       let more : i .fresh ≤ b = draws ts t .more in
       let begun : s .fresh ≤ i .fresh = entering-draws own other w s .more in
       let alike = alike-more φ b apart (s .arcs) (s .arcs ++ h) (i .arcs)
-      (more-alike φ d (s .fresh) apart fixes b on (s .arcs) h up outward up′) in
+      (more-alike φ d (s .fresh) apart fixes b on (s .arcs) h ends outward before) in
       let g = (s .arcs ++ h) ++ map (on-pair φ) (i .arcs) in
       let under = under-more (s .fresh) b Q (omega (arith, begun, more)) v in
       let moved-on = tracks-renamed φ d b apart ts t g under

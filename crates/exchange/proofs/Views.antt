@@ -1,6 +1,6 @@
 -- What is seen of tracks in two orders: places, arcs and meetings are carried by the map, since no order of a
--- list shows in them; for places no reference may be labelled twice. Labels, arcs and meetings of references
--- that a map fixes are fixed. Assumes nothing.
+-- list shows in them; for places no reference may be labelled twice. Labels of references that a map fixes are
+-- fixed. Assumes nothing.
 use Prim.Native.Nat.{ℕ, _+_, _≤_, _<_}
 use mathlib.Core.Path.{_≡_, refl, sym, ap, ap₂, _∙_}
 use mathlib.Core.Bool.{Bool, true, false, _||_, or-comm}
@@ -10,9 +10,8 @@ use native.Mathlib.Omega.{arith}
 use lib.Dec.{eqb}
 use Rattle.lines.specs.Line.{choose}
 use Rattle.places.specs.Place.{Place}
-use Rattle.report.specs.Track.{Label, lookup, Pair, pair}
+use Rattle.report.specs.Track.{Label, lookup, Pair}
 use Rattle.report.proofs.Marked.{one, one-same, past, past-drawn, tally, tally-append, label-counts}
-use Rattle.report.proofs.Meetings.{times}
 use Rattle.tracks.specs.Graph.{joins, meets}
 use Rattle.tracks.proofs.Pairs.{joins-append}
 use Rattle.tracks.proofs.Counted.{lookup-labelled}
@@ -100,32 +99,14 @@ module _ (φ : ℕ → ℕ) (apart : (n m : ℕ) → φ n ≡ φ m → n ≡ m) 
       → meets ys (φ n) (φ m) ≡ meets xs n m
   swaps-meets k n m = ap₂ (λ b c. b || c) (swaps-joins k n m) (swaps-joins k m n)
 
--- what a map fixes, below f
-module _ (φ : ℕ → ℕ) (f : ℕ) (fixes : (n : ℕ) → n < f → φ n ≡ n) where
-  -- labels
-  pub labels-fixed : (ls : List Label) → ((n : ℕ) → tally n ls ≤ past n f) → map (on-label φ) ls ≡ ls
-  unfolding tally
-  labels-fixed [] h = refl
-  labels-fixed (l ∷ ls) h =
-      let here : one (l .reference) (l .reference) + tally (l .reference) ls ≤ past (l .reference) f = h
-      (l .reference) in
-      let low = past-drawn (l .reference) f (omega (
-        arith,
-        here,
-        one-same (l .reference)
-            (l .reference) refl,
-      )) in
-      ap₂ (λ n ks. record { reference = n; place = l .place } ∷ ks) (fixes (l .reference) low)
-      (labels-fixed ls (λ n. let all : one n (l .reference) + tally n ls ≤ past n f = h n in omega
-      (arith, all)))
-
-  -- meetings
-  pub pairs-fixed : (ms : List Pair) → ((i j : ℕ) → 1 ≤ times i j ms → (i < f) × (j < f))
-      → map (on-pair φ) ms ≡ ms
-  unfolding times
-  pairs-fixed [] h = refl
-  pairs-fixed (a ∷ ms) h =
-      let (low, low′) = h (a .from) (a .to)
-      (rw (one-same (a .from) (a .from) refl, one-same (a .to) (a .to) refl) (omega arith)) in
-      ap₂ (λ b k. b ∷ k) (ap₂ pair (fixes (a .from) low) (fixes (a .to) low′))
-      (pairs-fixed ms (λ i j l. h i j (omega (arith, l))))
+-- labels of references below f are fixed by a map that fixes what is below f
+pub labels-fixed : (φ : ℕ → ℕ) (f : ℕ) → ((n : ℕ) → n < f → φ n ≡ n) → (ls : List Label)
+    → ((n : ℕ) → tally n ls ≤ past n f) → map (on-label φ) ls ≡ ls
+unfolding tally
+labels-fixed φ f fixes [] h = refl
+labels-fixed φ f fixes (l ∷ ls) h =
+    let i = l .reference in
+    let here : one i i + tally i ls ≤ past i f = h i in
+    let low = past-drawn i f (omega (arith, here, one-same i i refl)) in
+    ap₂ (λ n ks. record { reference = n; place = l .place } ∷ ks) (fixes i low)
+    (labels-fixed φ f fixes ls (λ n. let all : one n i + tally n ls ≤ past n f = h n in omega (arith, all)))
