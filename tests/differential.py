@@ -4,8 +4,9 @@
 
 It runs target/bin/NAME once for every input, as the kit's rt runs it, and holds what the program prints
 against the independent program's listing: judge on the inputs of generate.py, play on those of runs.py, reread
-on those of tracks.py. The first difference ends the run with status 1; what is printed then says how to see it
-again. Without any, one line tells the inputs, the outcomes and the seconds.
+on those of tracks.py, track on those of inputs.py. The first difference ends the run with status 1; what is
+printed then says how to see it again. Without any, one line tells the inputs, the outcomes and the seconds. On the
+way a line now and then tells how far it is, and how to go on from there.
 """
 
 import argparse
@@ -22,15 +23,18 @@ from typing import Callable, NamedTuple
 
 import generate
 import independent
+import inputs
 import rules
 import runs
 import saved
 import tracks
-from programs import Answer, answer_of, binary_of, prepare
+from families import DEFAULT_SEED, Families, told_counts
+from programs import Answer, answer_of, prepared
 
 WORKERS = 2
 INPUTS_AT_A_TIME = 20
-SECONDS_BETWEEN_WORDS = 5
+FIRST_SECONDS = 60  # in which words come often
+SECONDS_BETWEEN_WORDS, SECONDS_BETWEEN_LATER_WORDS = 5, 30
 SHORT_INPUT = 1_000  # bytes that are shown as they are
 LINES_SHOWN = 24
 COLUMN = 72
@@ -42,16 +46,16 @@ COLUMN = 72
 class Subject(NamedTuple):
     """How a program's inputs are made, what it has to print for one, and what that comes to."""
 
-    generate: Callable
-    family_of: Callable
+    families: Families
     listing: Callable
     outcome: Callable
 
 
 SUBJECTS = {
-    "judge": Subject(generate.generate, generate.family_of, independent.listing, independent.outcome),
-    "play": Subject(runs.generate, runs.family_of, rules.play_listing, rules.play_outcome),
-    "reread": Subject(tracks.generate, tracks.family_of, saved.reread_listing, saved.reread_outcome),
+    "judge": Subject(generate.FAMILIES, independent.listing, independent.outcome),
+    "play": Subject(runs.FAMILIES, rules.play_listing, rules.outcome),
+    "reread": Subject(tracks.FAMILIES, saved.reread_listing, saved.reread_outcome),
+    "track": Subject(inputs.FAMILIES, rules.listing, rules.outcome),
 }
 
 
@@ -64,27 +68,42 @@ class Compared(NamedTuple):
     difference: Answer | None  # the program's answer where it is another one
 
 
-def compare(subject, started, seed, index):
-    given = subject.generate(seed, index)
+def compare(program, started, seed, index):
+    subject = SUBJECTS[program]
+    given = subject.families.generate(seed, index)
     expected = subject.listing(given)
     answer = answer_of(started, given)
     return Compared(index, subject.outcome(expected), None if answer == Answer(expected, "") else answer)
 
 
-def compare_all(subject, started, seed, first, count):
+class Progress:
+    """Tells on standard error how far a run is, often at first and seldom later."""
+
+    def __init__(self, count):
+        self.count = count
+        self.began = self.told = time.monotonic()
+
+    def tell(self, done, index):
+        now = time.monotonic()
+        seconds = now - self.began
+        pause = SECONDS_BETWEEN_WORDS if seconds < FIRST_SECONDS else SECONDS_BETWEEN_LATER_WORDS
+        if now - self.told > pause:
+            self.told = now
+            words = f"{done} of {self.count} inputs alike, {seconds:.0f} s, {done / seconds:.1f} a second"
+            rest = f"the rest is --first {index + 1} --count {self.count - done}"
+            print(f"{words}; {rest}", file=sys.stderr, flush=True)
+
+
+def compare_all(program, started, seed, first, count):
     """Compares input after input; gives the counts of the outcomes and the first difference or None."""
-    outcomes = collections.Counter()
-    began = told = time.monotonic()
+    outcomes, progress = collections.Counter(), Progress(count)
     with multiprocessing.Pool(WORKERS) as pool:
-        one = functools.partial(compare, subject, started, seed)
+        one = functools.partial(compare, program, started, seed)
         for compared in pool.imap(one, range(first, first + count), INPUTS_AT_A_TIME):
             if compared.difference is not None:
                 return outcomes, compared
             outcomes[compared.outcome] += 1
-            if time.monotonic() - told > SECONDS_BETWEEN_WORDS:
-                told = time.monotonic()
-                done = outcomes.total()
-                print(f"{done} of {count} inputs alike, {told - began:.0f} s", file=sys.stderr, flush=True)
+            progress.tell(outcomes.total(), compared.index)
     return outcomes, None
 
 
@@ -118,13 +137,13 @@ def side_by_side(expected, wrote):
 def tell_difference(program, seed, compared):
     """Prints the first difference; the input and both outputs are kept whole in a folder of their own."""
     subject = SUBJECTS[program]
-    given = subject.generate(seed, compared.index)
+    given = subject.families.generate(seed, compared.index)
     expected = subject.listing(given)
     answer = compared.difference
     kept = pathlib.Path(tempfile.mkdtemp(prefix="differential-"))
     for name, content in (("input", given), ("independent", expected), ("program", answer.output)):
         (kept / name).write_bytes(content)
-    index, family = compared.index, subject.family_of(compared.index).__name__
+    index, family = compared.index, subject.families.family_of(compared.index).__name__
     print(f"DIFFERENT: seed {seed}, index {index}, family {family}")
     print(f"again: python3 tests/differential.py --program {program} --seed {seed} --first {index} --count 1")
     print(f"the input, {len(given)} bytes: {kept / 'input'}; both outputs are beside it")
@@ -137,18 +156,13 @@ def tell_difference(program, seed, compared):
 
 def run(program, seed, first, count):
     """The whole run; gives the exit status."""
-    binary = binary_of(program)
-    if not binary.is_file():
-        print(f"differential: there is no target/bin/{program}; `rt check` makes it", file=sys.stderr)
-        return 2
     began = time.monotonic()
-    with tempfile.TemporaryDirectory() as room:
-        started = prepare(binary, pathlib.Path(room))
-        outcomes, different = compare_all(SUBJECTS[program], started, seed, first, count)
+    with prepared(program) as started:
+        outcomes, different = compare_all(program, started, seed, first, count)
     if different is not None:
         tell_difference(program, seed, different)
         return 1
-    counts, seconds = generate.told_counts(outcomes), time.monotonic() - began
+    counts, seconds = told_counts(outcomes), time.monotonic() - began
     print(f"{program}: {outcomes.total()} inputs, seed {seed}, no difference: {counts}; {seconds:.1f} s")
     return 0
 
@@ -156,9 +170,9 @@ def run(program, seed, first, count):
 def main():
     arguments = argparse.ArgumentParser(description="hold a program against the independent program")
     arguments.add_argument("--count", type=int, default=2_500, help="how many inputs (2500)")
-    arguments.add_argument("--seed", type=int, default=generate.DEFAULT_SEED, help="the seed of all inputs")
+    arguments.add_argument("--seed", type=int, default=DEFAULT_SEED, help="the seed of all inputs")
     arguments.add_argument("--first", type=int, default=0, help="the first input's index (0)")
-    arguments.add_argument("--program", default="judge", choices=SUBJECTS, help="which of target/bin (judge)")
+    arguments.add_argument("--program", default="track", choices=SUBJECTS, help="which of target/bin (track)")
     chosen = arguments.parse_args()
     return run(chosen.program, chosen.seed, chosen.first, chosen.count)
 

@@ -1,24 +1,17 @@
 """Inputs for the program judge: a table and then a script, good, cut short, damaged and made up.
 
-An input is a function of a seed and an index. The index goes round the families at the end of this file,
-each a way to make inputs; all else is drawn by lot from the seed and the index. Here a text is a str of
-Latin-1 characters, a byte each, and a line is one without its LF.
+The families stand at the end of this file; families.py says how an input follows from a seed and an index. Here
+a text is a str of Latin-1 characters, a byte each, and a line is one without its LF.
 
-    python3 tests/generate.py --seed 7 --index 12     writes that input to standard output
-    python3 tests/generate.py --seed 7 --count 2500   tells how often each family meets each outcome
+    python3 tests/generate.py [--seed S] [--index I] [--count N]
 """
 
-import argparse
-import collections
-import random
-import sys
 from typing import NamedTuple
 
 import independent
+from families import Families, command
 from independent import ADDRESS_ROOM, KINDS, MOST_DEFINITIONS, PATH_ROOM, SCRIPT_ROOM, TABLE_ROOM, TERM_ROOM
 from independent import CALL, EXTERNAL_CHOICE, INTERNAL_CHOICE, PARALLEL, PREFIX, SEQUENCE, SKIP, STOP
-
-DEFAULT_SEED = 2010
 
 LEAVES = (CALL, SKIP, STOP)
 OPERATORS = (INTERNAL_CHOICE, EXTERNAL_CHOICE, SEQUENCE, PARALLEL)
@@ -650,20 +643,16 @@ def random_frames(rng):
 # ---- families: the rooms for text
 
 
-PADDING = ("0", "12", "1207\n", "200000\n", "\n")
+PADDING_UNITS = ("0", "12", "1207\n", "200000\n", "\n")
 
 
 def some_length(rng, room):
     return rng.choice((room - 1, room, room, room + 1, room + 1, room + rng.randint(2, 100), 3 * room))
 
 
-def by_the_room_for_table_text(rng):
-    """A table's text padded to its room; no good table is that long, so what fits gets another number.
-
-    It ends with the input, with a `1f` line behind the padding, or with a `1f` line that is the padding.
-    """
-    length = some_length(rng, TABLE_ROOM)
-    start = rng.choice(
+def start_of_a_table(rng):
+    """Lines of a table before its end, none of them a `1f` line."""
+    return rng.choice(
         (
             small_table(rng).lines[: rng.randrange(4)],
             small_table(rng).lines[:-1],
@@ -671,17 +660,38 @@ def by_the_room_for_table_text(rng):
             [rng.choice(("", "100101", "10020101", "1100", "10 ", "1"))],
         )
     )
-    begin, unit, end = rng.choice(
-        (
-            ("", rng.choice(PADDING), ""),
-            ("", rng.choice(PADDING), rng.choice(("1f", end_line(0), end_line(TERM_ROOM))) + "\n"),
-            ("1f", "0", ""),
-        )
+
+
+class Padding(NamedTuple):
+    """What a text is padded with: how that begins, what it repeats, and what stands behind it."""
+
+    begin: str
+    unit: str
+    end: str
+
+
+def some_paddings(rng):
+    """Three ways to pad a table's text: without a `1f` line, before one, and as one."""
+    return (
+        Padding("", rng.choice(PADDING_UNITS), ""),
+        Padding("", rng.choice(PADDING_UNITS), rng.choice(("1f", end_line(0), end_line(TERM_ROOM))) + "\n"),
+        Padding("1f", "0", ""),
     )
-    text = text_of(start) + begin
-    pad = length - len(text) - len(end) - 1
-    text += (unit * pad)[:pad] + "\n" + end
-    return text + text_of(good_script(rng)) if begin or end else text
+
+
+def padded(start, padding, length):
+    """A text of exactly so many bytes that begins with some lines."""
+    text = text_of(start) + padding.begin
+    pad = length - len(text) - len(padding.end) - 1
+    return text + (padding.unit * pad)[:pad] + "\n" + padding.end
+
+
+def by_the_room_for_table_text(rng):
+    """A table's text padded to its room; no good table is that long, so what fits gets another number."""
+    length, start = some_length(rng, TABLE_ROOM), start_of_a_table(rng)
+    padding = rng.choice(some_paddings(rng))
+    text = padded(start, padding, length)
+    return text + text_of(good_script(rng)) if padding.begin or padding.end else text
 
 
 def by_the_room_for_script_text(rng):
@@ -704,82 +714,35 @@ def by_the_room_for_script_text(rng):
 # ---- every input
 
 
-# the more there is to find, the more often a family stands here
-FAMILIES = (
-    good,
-    by_the_room_for_terms,
-    by_the_room_for_paths,
-    cut_short,
-    damaged_character,
-    damaged_by_foreign,
-    damaged_line,
-    damaged_first_line,
-    damaged_number,
-    damaged_term,
-    damaged_term,
-    damaged_order,
-    several_numbers,
-    several_numbers,
-    several_numbers,
-    several_numbers,
-    script_lines,
-    script_lines,
-    behind_the_end,
-    ended_by_the_characters,
-    random_bytes,
-    random_lines,
-    random_frames,
-    by_the_room_for_table_text,
-    by_the_room_for_script_text,
-)
-
-
-def family_of(index):
-    return FAMILIES[index % len(FAMILIES)]
-
-
-def generate(seed, index):
-    """The input of a seed and an index."""
-    return family_of(index)(random.Random(f"{seed} {index}")).encode("latin-1")
+# how many of twenty-five inputs are of each family: the more there is to find, the more
+SHARES = {
+    good: 1,
+    by_the_room_for_terms: 1,
+    by_the_room_for_paths: 1,
+    cut_short: 1,
+    damaged_character: 1,
+    damaged_by_foreign: 1,
+    damaged_line: 1,
+    damaged_first_line: 1,
+    damaged_number: 1,
+    damaged_term: 2,
+    damaged_order: 1,
+    several_numbers: 4,
+    script_lines: 2,
+    behind_the_end: 1,
+    ended_by_the_characters: 1,
+    random_bytes: 1,
+    random_lines: 1,
+    random_frames: 1,
+    by_the_room_for_table_text: 1,
+    by_the_room_for_script_text: 1,
+}
+FAMILIES = Families("", SHARES)
 
 
 def outcome(given):
     return independent.outcome(independent.listing(given))
 
 
-def measure(seed, count, make, family, outcome_of):
-    """How often each family meets each outcome."""
-    met = collections.defaultdict(collections.Counter)
-    for index in range(count):
-        outcome_met = outcome_of(make(seed, index))
-        for name in (family(index).__name__, "all"):
-            met[name][outcome_met] += 1
-    return met
-
-
-def told_counts(outcomes):
-    """The counts of the outcomes on one line, those of one word in the order of their numbers."""
-
-    def word_and_number(outcome_met):
-        word, _, number = outcome_met.partition(" ")
-        return word, int(number or 0)
-
-    return ", ".join(f"{each} {outcomes[each]}" for each in sorted(outcomes, key=word_and_number))
-
-
-def command(description, make, family, outcome_of):
-    """The command line of a generator."""
-    arguments = argparse.ArgumentParser(description=description)
-    arguments.add_argument("--seed", type=int, default=DEFAULT_SEED)
-    arguments.add_argument("--index", type=int, help="write this input")
-    arguments.add_argument("--count", type=int, default=2_500, help="measure so many inputs")
-    chosen = arguments.parse_args()
-    if chosen.index is not None:
-        sys.stdout.buffer.write(make(chosen.seed, chosen.index))
-        return
-    for name, outcomes in measure(chosen.seed, chosen.count, make, family, outcome_of).items():
-        print(f"{name}:", told_counts(outcomes))
-
-
 if __name__ == "__main__":
-    command("inputs for the program judge", generate, family_of, outcome)
+    command("inputs for the program judge", FAMILIES, outcome)

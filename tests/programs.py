@@ -5,6 +5,8 @@
 runs target/bin/NAME on standard input and prints what it prints.
 """
 
+import contextlib
+import fcntl
 import os
 import pathlib
 import platform
@@ -12,10 +14,15 @@ import shutil
 import subprocess
 import sys
 import tempfile
+import termios
+import threading
+import time
 from typing import NamedTuple
 
 REPOSITORY = pathlib.Path(__file__).resolve().parent.parent
 SECONDS_FOR_ONE_INPUT = 30
+SECONDS_BETWEEN_LOOKS = 0.0005
+MOST_LOOKS = 2_000
 NOBODY = 65_534
 
 
@@ -59,6 +66,17 @@ def prepare(program, room):
     return Started(command, str(data))
 
 
+@contextlib.contextmanager
+def prepared(name):
+    """How to start target/bin/NAME, as long as the block lasts; ends with status 2 where there is none."""
+    program = REPOSITORY / "target" / "bin" / name
+    if not program.is_file():
+        print(f"there is no target/bin/{name}; `rt check {name}` makes it", file=sys.stderr)
+        sys.exit(2)
+    with tempfile.TemporaryDirectory() as room:
+        yield prepare(program, pathlib.Path(room))
+
+
 class Answer(NamedTuple):
     """What a program printed, and how it ended where that was not well."""
 
@@ -66,17 +84,18 @@ class Answer(NamedTuple):
     trouble: str
 
 
-def answer_of(started, given):
+def answer_from(started, **source):
+    """The answer to what `source`, an argument of subprocess.run, has for standard input."""
     environment = {name: value for name, value in os.environ.items() if not name.startswith("QEMU_")}
     try:
         ended = subprocess.run(
             started.command,
-            input=given,
             capture_output=True,
             cwd=started.folder,
             env=environment,
             timeout=SECONDS_FOR_ONE_INPUT,
             check=False,
+            **source,
         )
     except subprocess.TimeoutExpired as expired:
         return Answer(expired.stdout or b"", f"no end after {SECONDS_FOR_ONE_INPUT} seconds")
@@ -85,15 +104,43 @@ def answer_of(started, given):
     return Answer(ended.stdout, "")
 
 
-def binary_of(name):
-    return REPOSITORY / "target" / "bin" / name
+def answer_of(started, given):
+    return answer_from(started, input=given)
+
+
+def wait_until_read(pipe):
+    """Waits until a pipe is empty; a second at most, since its reader may have ended."""
+    nothing = bytes(4)
+    for _ in range(MOST_LOOKS):
+        if fcntl.ioctl(pipe, termios.FIONREAD, nothing) == nothing:
+            return
+        time.sleep(SECONDS_BETWEEN_LOOKS)
+
+
+def write_pieces(pipe, pieces):
+    """Writes piece after piece, each when the one before is read, through the last or until nobody reads on."""
+    with contextlib.suppress(BrokenPipeError), open(pipe, "wb", buffering=0) as writing:
+        for piece in pieces:
+            writing.write(piece)
+            wait_until_read(writing)
+
+
+def answer_in_pieces(started, pieces):
+    """The answer to an input that comes a piece at a time, so that the program's reads end where pieces do."""
+    reading, writing = os.pipe()
+    writer = threading.Thread(target=write_pieces, args=(writing, pieces))
+    writer.start()
+    with open(reading, "rb") as source:
+        answer = answer_from(started, stdin=source)
+    writer.join()
+    return answer
 
 
 def main():
-    if len(sys.argv) != 2 or not binary_of(sys.argv[1]).is_file():
-        sys.exit("programs: name a program that stands in target/bin; `rt check NAME` makes it")
-    with tempfile.TemporaryDirectory() as room:
-        answer = answer_of(prepare(binary_of(sys.argv[1]), pathlib.Path(room)), sys.stdin.buffer.read())
+    if len(sys.argv) != 2:
+        sys.exit("programs: name a program of target/bin")
+    with prepared(sys.argv[1]) as started:
+        answer = answer_of(started, sys.stdin.buffer.read())
     sys.stdout.buffer.write(answer.output)
     sys.exit(answer.trouble or 0)
 

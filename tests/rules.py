@@ -194,7 +194,8 @@ class Derivation:
     def in_sequence(self, control, reference):
         left = self.step(control.left, reference)
         if left.event != TICK:
-            return left._replace(control=control._replace(left=left.control))
+            entered = Started(control.term, left.control, control.right)
+            return Result(left.event, entered, left.reference, left.event_nodes)
         after = self.track.label_and_draw(left.reference, control.term.place)
         return Result(TAU, control.right, after, [])
 
@@ -209,12 +210,14 @@ class Derivation:
     def in_left(self, sides, reference):
         own = self.enter(sides.term, reference, sides.left_reference, sides.right_reference)
         side = self.step(sides.left, own)
-        return self.by_one_side(sides._replace(left=side.control, left_reference=side.reference), reference, side)
+        entered = Sides(sides.term, side.control, sides.right, side.reference, sides.right_reference)
+        return self.by_one_side(entered, reference, side)
 
     def in_right(self, sides, reference):
         own = self.enter(sides.term, reference, sides.right_reference, sides.left_reference)
         side = self.step(sides.right, own)
-        return self.by_one_side(sides._replace(right=side.control, right_reference=side.reference), reference, side)
+        entered = Sides(sides.term, sides.left, side.control, sides.left_reference, side.reference)
+        return self.by_one_side(entered, reference, side)
 
     def by_one_side(self, sides, reference, side):
         """What the operator, with the side put back, makes of a step of that side."""
@@ -257,7 +260,7 @@ def offers(control):
             return left | right
         shown = {event for event in left | right if not in_set(event, control.term)}
         met = {event for event in left & right if in_set(event, control.term)}
-        ends = {TICK} if control.left == control.right == OMEGA else set()
+        ends = {TICK} if control.left == OMEGA and control.right == OMEGA else set()
         return {TAU if event == TICK else event for event in shown} | met | ends
     if control in (OMEGA, BOTTOM):
         return set()
@@ -430,8 +433,8 @@ def play_listing(given):
     return listing_with(track_by_references, given)
 
 
-def play_outcome(told):
-    """In a word or two what play's listing comes to: its status, or the number of the refusal that ended it.
+def outcome(told):
+    """In a word or two what a listing comes to: its status, or the number of the refusal behind that.
 
     `text R` is a refusal that stands alone, of a table or of a script over its room.
     """

@@ -1,20 +1,19 @@
 """Inputs for the program play: a table, and a script whose steps are mostly accepted.
 
-An input is a function of a seed and an index, as in generate.py, whose words are used here. A script is made by
-playing it with the independent rules: the next address is drawn from those that the control has derivations
-for. Refusals come in on purpose, at a run's end or where a run passes one of its rooms.
+The words of generate.py are used here, and families.py says how an input follows from a seed and an index. A
+script is made by playing it with the independent rules: the next address is drawn from those that the control
+has derivations for. Refusals come in on purpose, at a run's end or where a run passes one of its rooms.
 
-    python3 tests/runs.py --seed 7 --index 12     writes that input to standard output
-    python3 tests/runs.py --seed 7 --count 2000   tells how often each family meets each outcome
+    python3 tests/runs.py [--seed S] [--index I] [--count N]
 """
 
 import itertools
-import random
 from typing import NamedTuple
 
 import generate as judged
 import rules
-from generate import any_script_line, assemble, command, some_place, step_line, term_line, text_of, within
+from families import Families, command
+from generate import any_script_line, assemble, some_place, step_line, term_line, text_of, within
 from independent import ADDRESS_ROOM, KINDS, SCRIPT_ROOM, Refusal, judge_table
 from independent import CALL, EXTERNAL_CHOICE, INTERNAL_CHOICE, PARALLEL, PREFIX, SEQUENCE, SKIP, STOP
 from rules import ARC_ROOM, BOTTOM, CELL_ROOM, MEETING_ROOM, NODE_ROOM, OMEGA, TAU, TICK
@@ -422,15 +421,15 @@ def of_any_table(rng):
 
 def as_judged(rng):
     """An input for judge: its table is mostly refused, and its script drawn without regard to the table."""
-    return rng.choice(judged.FAMILIES)(rng)
+    return rng.choice(judged.FAMILIES.round)(rng)
 
 
 # ---- families: document 01's cases
 
 
-def case(*bodies, by=("",)):
+def case(*bodies, by=("",), events=2):
     """A table, and the addresses of a case behind the empty one."""
-    return table_of(*bodies), [()] + [tuple(map(int, address)) for address in by]
+    return table_of(*bodies, events=events), [()] + [tuple(map(int, address)) for address in by]
 
 
 E0_SKIP, E0_STOP = prefixes((0,), SKIPS), prefixes((0,), STOPS)
@@ -440,29 +439,29 @@ CASE_A = parallel(E0, E0_SKIP, E0_STOP)
 CASE_C = parallel(NO_EVENT, E0_STOP, E1_STOP)
 CASE_K = parallel(E0, E0_STOP, E1_STOP)
 
-CASES = (
-    case(CASE_A, by=("3", "1", "2")),
-    case(CASE_A, by=("3", "2", "1")),  # B
-    case(CASE_C, by=("1", "2")),
-    case(CASE_C, by=("2", "1")),
-    case(SKIP_SKIP, by=("1", "2", "4")),  # D
-    case(sequence(SKIP_SKIP, STOPS), by=("1", "2", "4")),  # E
-    case(choice(SKIPS, E0_STOP), by=("1",)),  # F
-    case(choice(call(1), E0_STOP), E1_SKIP, by=("1", "2")),  # G
-    case(parallel(E0, parallel(E0, E0_STOP, E0_STOP), E0_STOP), by=("33",)),  # H
-    case(call(0)),  # I
-    case(sequence(call(0), SKIPS)),  # J
-    case(CASE_K, by=("1",)),
-    case(CASE_K, by=("3",)),
-    case(CASE_K, by=("2",)),
-    case(prefixes((0,) * 64, SKIPS), by=("",) * 65),  # L
-    case(prefixes((0,) * 65, SKIPS)),  # L, refused
-)
+CASES = {
+    "a": case(CASE_A, by=("3", "1", "2")),
+    "b": case(CASE_A, by=("3", "2", "1")),
+    "c-12": case(CASE_C, by=("1", "2")),
+    "c-21": case(CASE_C, by=("2", "1")),
+    "d": case(SKIP_SKIP, by=("1", "2", "4"), events=0),
+    "e": case(sequence(SKIP_SKIP, STOPS), by=("1", "2", "4"), events=0),
+    "f": case(choice(SKIPS, E0_STOP), by=("1",), events=1),
+    "g": case(choice(call(1), E0_STOP), E1_SKIP, by=("1", "2")),
+    "h": case(parallel(E0, parallel(E0, E0_STOP, E0_STOP), E0_STOP), by=("33",), events=1),
+    "i": case(call(0)),
+    "j": case(sequence(call(0), SKIPS)),
+    "k-1": case(CASE_K, by=("1",)),
+    "k-3": case(CASE_K, by=("3",)),
+    "k-2": case(CASE_K, by=("2",)),
+    "l-64": case(prefixes((0,) * 64, SKIPS), by=("",) * 65),
+    "l-65": case(prefixes((0,) * 65, SKIPS)),  # refused
+}
 
 
 def of_a_case(rng):
     """A case of document 01 as it stands, cut to its first steps (M has none), or with a step more."""
-    draft, addresses = rng.choice(CASES)
+    draft, addresses = rng.choice(list(CASES.values()))
     lines = [step_line(address) for address in addresses]
     lines = rng.choice((lines, lines, lines[: rng.randint(0, len(lines))], lines + [step_line([])]))
     return text_of(draft.lines + lines)
@@ -862,21 +861,12 @@ SHARES = {
     of_many_references: 1,
     by_the_room_for_script_text: 1,
 }
-FAMILIES = [family for family, share in SHARES.items() for _ in range(share)]
-
-
-def family_of(index):
-    return FAMILIES[index % len(FAMILIES)]
-
-
-def generate(seed, index):
-    """The input of a seed and an index."""
-    return family_of(index)(random.Random(f"run {seed} {index}")).encode("latin-1")
+FAMILIES = Families("run ", SHARES)
 
 
 def outcome(given):
-    return rules.play_outcome(rules.play_listing(given))
+    return rules.outcome(rules.play_listing(given))
 
 
 if __name__ == "__main__":
-    command("inputs for the program play", generate, family_of, outcome)
+    command("inputs for the program play", FAMILIES, outcome)

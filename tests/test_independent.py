@@ -8,6 +8,7 @@ A text is written as document 01 writes its case A: `/` for LF.
 import unittest
 
 import generate
+from families import DEFAULT_SEED
 from independent import Place, Refusal, Table, event_place, judge_script_line, judge_table, listing
 
 CASE_A_TABLE = "10010101/1100/12060000000000000001/120200/1207/120200/1208/1f0005/"
@@ -282,8 +283,9 @@ class GoodInputs(unittest.TestCase):
     """What the generators call good is accepted, with the counts they meant."""
 
     def test_good_inputs(self):
-        for index in range(0, 100 * len(generate.FAMILIES), len(generate.FAMILIES)):
-            given = generate.generate(generate.DEFAULT_SEED, index)
+        families = generate.FAMILIES
+        for index in range(0, 100 * len(families.round), len(families.round)):
+            given = families.generate(DEFAULT_SEED, index)
             lines = given.decode("ascii").splitlines()
             definitions, events = int(lines[0][4:6], 16), int(lines[0][6:8], 16)
             terms = sum(line.startswith("12") for line in lines)

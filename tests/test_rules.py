@@ -10,7 +10,7 @@ import unittest
 import generate
 from independent import PARALLEL, SEQUENCE, Refusal, judge_table
 from rules import ENDED, LIVE, OMEGA, STUCK, TAU, TICK, Run, Sides, Started, Tree
-from rules import listing, offers, opened, play_listing, play_outcome, saved_text, status
+from rules import listing, offers, opened, outcome, play_listing, saved_text, status
 
 ON_E0, ON_NONE = "1206" + "00" * 7 + "01/", "1206" + "00" * 8 + "/"
 E0_STOP, E1_STOP = "120200/1208/", "120201/1208/"
@@ -152,7 +152,7 @@ class PlayListing(unittest.TestCase):
             "5200070009/"
         )
         self.assertEqual(told, text(steps + offers_and_counters + nodes + arcs + "5300020005/" + CASE_A_TRACK))
-        self.assertEqual(play_outcome(told), "stuck")
+        self.assertEqual(outcome(told), "stuck")
 
     def test_case_d(self):
         told = self.play(SKIP_SKIP, 3, "200000/20000101/20000102/20000104/")
@@ -164,7 +164,7 @@ class PlayListing(unittest.TestCase):
             "3001000400030000/310000000100/3100010000/310002000101/310003000102/3200000001/3200010002/3200010003/3f/"
         )
         self.assertEqual(told, text(steps + offers_and_counters + nodes + arcs + saved))
-        self.assertEqual(play_outcome(told), "ended")
+        self.assertEqual(outcome(told), "ended")
 
     def test_case_k_refused(self):
         told = self.play(ON_E0 + E0_STOP + E1_STOP, 5, "200000/20000101/20000102/")
@@ -172,12 +172,12 @@ class PlayListing(unittest.TestCase):
         offers_and_counters = "4200000000000000000002/43000100020001000100010000/"
         track = "510000000100/5200000001/3001000100000000/310000000100/3f/"
         self.assertEqual(told, text(steps_and_refusal + offers_and_counters + track))
-        self.assertEqual(play_outcome(told), "refused 7")
+        self.assertEqual(outcome(told), "refused 7")
 
     def test_offers_of_every_sort(self):
         told = self.play("1204/1204/120201/1208/1207/120100/", 6, "200000/")
         self.assertIn(b"\n4100\n4201010000000000000002\n430001000200010001", told)
-        self.assertEqual(play_outcome(told), "live")
+        self.assertEqual(outcome(told), "live")
 
     def test_no_step(self):
         told = self.play("1207/", 1, "")
@@ -186,7 +186,7 @@ class PlayListing(unittest.TestCase):
     def test_refusals_that_stand_alone(self):
         self.assertEqual(self.play("1207/", 2, "200000/"), text("4e030004/"))
         self.assertEqual(self.play("1207/", 1, "200000/" * 9_363), text("4e060000/"))
-        self.assertEqual(play_outcome(text("4e060000/")), "text 6")
+        self.assertEqual(outcome(text("4e060000/")), "text 6")
 
 
 def operators(control):

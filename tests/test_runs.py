@@ -3,21 +3,16 @@
 The outcomes are told by the independent rules; what they have to be is written in document 01.
 """
 
-import hashlib
-import os
 import random
-import subprocess
-import sys
 import unittest
 
 import runs
-from generate import DEFAULT_SEED
+from families import DEFAULT_SEED
 from independent import ADDRESS_ROOM, SCRIPT_ROOM, Refusal, cut_input, judge_table
 from rules import ARC_ROOM, CELL_ROOM, MEETING_ROOM, NODE_ROOM, TAU, TICK, Derivation, cells, offers
 
 OUTCOMES = {f"refused {number}" for number in (1, 2, 3, 7, 8, 9, 10, 11)} | {"live", "ended", "stuck"}
 FIRST_INDICES = 2_000  # among which every outcome is met; the search ends with the last of them
-INDEX_OF_EACH_FAMILY = [runs.FAMILIES.index(family) for family in runs.SHARES]
 
 
 def scripts(make, count):
@@ -25,34 +20,16 @@ def scripts(make, count):
     return [make(random.Random(seed)) for seed in range(count)]
 
 
-def digest_of_inputs():
-    """A digest of an input of each family."""
-    inputs = b"".join(runs.generate(DEFAULT_SEED, index) for index in INDEX_OF_EACH_FAMILY)
-    return hashlib.sha256(inputs).hexdigest()
-
-
-def digest_elsewhere(hash_seed):
-    """The same digest from a Python whose sets and dictionaries of strings are ordered otherwise."""
-    given = [sys.executable, "-B", "-c", "import test_runs; print(test_runs.digest_of_inputs())"]
-    environment = dict(os.environ, PYTHONHASHSEED=hash_seed, PYTHONPATH=os.path.dirname(__file__))
-    return subprocess.run(given, capture_output=True, env=environment, text=True, check=True).stdout.strip()
-
-
 class Inputs(unittest.TestCase):
-    def test_an_input_is_a_function_of_seed_and_index(self):
-        self.assertEqual(digest_of_inputs(), digest_elsewhere("1"))
-        self.assertNotEqual(runs.generate(1, 0), runs.generate(2, 0))
-        self.assertNotEqual(runs.generate(1, 0), runs.generate(1, 1))
-
     def test_every_outcome_is_met(self):
         missing, index = set(OUTCOMES), 0
         while missing and index < FIRST_INDICES:
-            missing.discard(runs.outcome(runs.generate(DEFAULT_SEED, index)))
+            missing.discard(runs.outcome(runs.FAMILIES.generate(DEFAULT_SEED, index)))
             index += 1
         self.assertEqual(missing, set())
 
     def test_every_hundred_inputs_have_every_family(self):
-        self.assertEqual(len(runs.FAMILIES), 100)
+        self.assertEqual(len(runs.FAMILIES.round), 100)
 
 
 class Walks(unittest.TestCase):
@@ -142,7 +119,7 @@ class Rooms(unittest.TestCase):
 
 class Cases(unittest.TestCase):
     def test_tables_of_the_cases(self):
-        answers = [judge_table(runs.text_of(draft.lines).encode("ascii")) for draft, _ in runs.CASES]
+        answers = [judge_table(runs.text_of(draft.lines).encode("ascii")) for draft, _ in runs.CASES.values()]
         refused = [answer for answer in answers if isinstance(answer, Refusal)]
         self.assertEqual((refused, answers[-1]), ([Refusal(5, 67)], Refusal(5, 67)))
 

@@ -141,7 +141,7 @@ class Generated(unittest.TestCase):
     def test_read_texts_are_written_again(self):
         read = 0
         for index in range(200):
-            given = tracks.generate(7, index)
+            given = tracks.FAMILIES.generate(7, index)
             told = reread_listing(given)
             if reread_outcome(told) == "read":
                 self.assertEqual(told, cut_input(given)[1], index)

@@ -1,17 +1,18 @@
 """Inputs for the program reread, by families: a table with a saved track behind it.
 
 A track is the saved text of a run, or a graph of the reader's shape that no run makes; then nothing, one rule of
-shape, one number or some characters of it are spoilt. Every input follows from a seed and an index:
+shape, one number or some characters of it are spoilt. families.py says how an input follows from a seed and an
+index.
 
     python3 tests/tracks.py [--seed S] [--index I] [--count N]
 """
 
-import random
 from typing import NamedTuple
 
 import generate as judged
 import runs
-from generate import command, damage_by_foreign, damage_character, damage_line
+from families import Families, command
+from generate import damage_by_foreign, damage_character, damage_line
 from independent import (
     EXTERNAL_CHOICE, PARALLEL, PREFIX, Place, Refusal, Table, cut_input, event_place, judge_table, left_hand_side,
 )
@@ -355,16 +356,7 @@ SHARES = {
     at_the_room_for_nodes: 1,
     at_the_room_for_meetings: 1,
 }
-FAMILIES = [family for family, share in SHARES.items() for _ in range(share)]
-
-
-def family_of(index):
-    return FAMILIES[index % len(FAMILIES)]
-
-
-def generate(seed, index):
-    """The input of a seed and an index."""
-    return family_of(index)(random.Random(f"track {seed} {index}")).encode("latin-1")
+FAMILIES = Families("track ", SHARES)
 
 
 def outcome(given):
@@ -372,4 +364,4 @@ def outcome(given):
 
 
 if __name__ == "__main__":
-    command("inputs for the program reread", generate, family_of, outcome)
+    command("inputs for the program reread", FAMILIES, outcome)

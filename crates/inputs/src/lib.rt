@@ -1,17 +1,20 @@
-// Where a table's text ends in the input, and its script begins.
-ghost use Prim.Native.Nat.{_<_, _≤_};
-ghost use lib.ListN.{length};
+// Where a table's text ends in a program's input, and its script begins.
+ghost use mathlib.Core.Path.{_≡_};
+ghost use Rattle.lines.specs.Line.{lines};
+ghost use Rattle.inputs.specs.Cut.{table-length, starts-1f};
+ghost use Rattle.inputs.specs.Code.{line-length};
 
 const LF: u8 = 10;
 
 // The table's text runs through the first line that starts `1f`, or to the end.
 pub fn table_end(text: &[u8]) -> usize
-    ensures { λ r. ⌜ r ≤ length (now (text .entry)) ⌝ }
+    ensures { λ r. ⌜ r ≡ table-length (lines (now (text .entry))) ⌝ }
 {
     let mut at = 0;
     while at < text.len() {
-        let next = line_end(text, at);
-        if starts_1f(text, at) {
+        let rest = &text[at..];
+        let next = at + line_length(rest);
+        if starts_1f(rest) {
             return next;
         }
         at = next;
@@ -19,12 +22,11 @@ pub fn table_end(text: &[u8]) -> usize
     at
 }
 
-// The place behind the line feed of the line at a place, or the end of the text.
-fn line_end(text: &[u8], at: usize) -> usize
-    requires { ⌜ at < length (now text) ⌝ }
-    ensures { λ r. ⌜ (at < r) × (r ≤ length (now (text .entry))) ⌝ }
+// How many bytes a text's first line is, its line feed with it.
+fn line_length(text: &[u8]) -> usize
+    ensures { λ r. ⌜ r ≡ line-length (now (text .entry)) ⌝ }
 {
-    let mut i = at;
+    let mut i = 0;
     while i < text.len() {
         if text[i] == LF {
             return i + 1;
@@ -34,12 +36,12 @@ fn line_end(text: &[u8], at: usize) -> usize
     i
 }
 
-fn starts_1f(text: &[u8], at: usize) -> bool
-    requires { ⌜ at < length (now text) ⌝ }
+// Whether a text starts `1f`.
+fn starts_1f(text: &[u8]) -> bool
+    ensures { λ r. ⌜ r ≡ starts-1f (now (text .entry)) ⌝ }
 {
-    let second = at + 1;
-    if text.len() <= second {
+    if text.len() < 2 {
         return false;
     }
-    text[at] == b'1' && text[second] == b'f'
+    text[0] == b'1' && text[1] == b'f'
 }

@@ -1,5 +1,6 @@
 -- Laws of lines: `Digits` of runs of digits, `Laws` what a caller of the functions may rely on, `Written`
--- that a text of frames reads back as those frames.
+-- that a text of frames reads back as those frames; and `Typed`, how texts are typed in cases.
 pub mod Digits
 pub mod Laws
 pub mod Written
+pub mod Typed

@@ -69,6 +69,10 @@ number-from n (b ∷ bs) = number-from (n * 256 + b) bs
 abbrev pub number : List ℕ → ℕ
 number bs = number-from 0 bs
 
+-- a number as two bytes
+unfoldable pub two : ℕ → List ℕ
+two n = n / 256 % 256 ∷ n % 256 ∷ []
+
 -- the character of a digit
 unfoldable pub character : ℕ → ℕ
 character d = choose (ltb d 10) (48 + d) (87 + d)

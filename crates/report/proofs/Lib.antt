@@ -3,12 +3,12 @@
 -- nodes; `Stripped`, what a step is with tracking stripped; `Offered`, offers are the derivations' events;
 -- `Stuck`, what a status says of the derivations; what every run keeps: `Ranged`, calls and events in range
 -- of the table; `Drawn`, arcs into each side, and the rooms; `Marked`, no reference labelled twice;
--- `Climbing`, arcs to larger references, into each but 0; `Meetings`, meetings made once, between labelled
--- event nodes of one event; `Holding`, no reference held twice; `Placed`, literals at their places, and Ω at
--- the top or beside a parallel; `Weighed`, what control weighs, and `Parents`, arcs from labelled references,
--- none made twice, and the parents of Ω; `Sided`, where the sides of a choice or parallel begin, `Gauged`, what a
--- gauge reads, and `Branches`, arcs between labelled nodes; `Outward`, arcs to fresh references alone; and
--- `Cases`, the runs of document 01 played by computation.
+-- `Climbing`, arcs to larger references, into each but 0; `Drawing`, a fresh reference drawn by each step;
+-- `Meetings`, meetings made once, between labelled event nodes of one event; `Holding`, no reference held twice;
+-- `Placed`, literals at their places, and Ω at the top or beside a parallel; `Weighed`, what control weighs, and
+-- `Parents`, arcs from labelled references, none made twice, and the parents of Ω; `Sided`, where the sides of a
+-- choice or parallel begin, `Gauged`, what a gauge reads, and `Branches`, arcs between labelled nodes; `Outward`,
+-- arcs to fresh references alone; and `Cases`, the runs of document 01 played by computation.
 pub mod Derived
 pub mod Answered
 pub mod Quiet
@@ -19,6 +19,7 @@ pub mod Ranged
 pub mod Drawn
 pub mod Marked
 pub mod Climbing
+pub mod Drawing
 pub mod Meetings
 pub mod Holding
 pub mod Placed

@@ -2,13 +2,12 @@
 -- save, and case A's text with each rule of the reader broken in turn. A text is written as document 01 writes
 -- its case A, with `/` for LF; what is expected comes from the independent program. Assumes nothing.
 use Prim.Native.Nat.{ℕ, zero, suc, _+_, _-_}
-use Prim.Native.Char.{code}
-use Prim.Native.String.{String, [] as no-character, _∷_ as _before_, _++_, len, slice, find}
+use Prim.Native.String.{String, _++_, len, slice, find}
 use mathlib.Core.Path.{_≡_, refl}
 use mathlib.Core.List.{List, [], _∷_, map, _++_ as _++ᴸ_}
-use lib.Dec.{eqb}
-use Rattle.lines.specs.Line.{choose, LF, digit, before, lines, pair, bytes, frame, number-from, character}
-use Rattle.lines.specs.Line.{hex, text}
+use Rattle.lines.specs.Line.{digit, before, lines, pair, bytes, frame, number-from, character, hex, text}
+use Rattle.lines.specs.Line as Line
+use Rattle.lines.proofs.Typed.{typed}
 use Rattle.frames.specs.EventSet.{member}
 use Rattle.terms.specs.Term.{Term, leaf, prefix, binary, call, SKIP, STOP, external, sequence, parallel, size}
 use Rattle.places.specs.Place.{term-at, shifted, event-end, literal-at, begins, under}
@@ -32,11 +31,6 @@ use Rattle.tracks.specs.Shape.{splits-literal, branches, event-of-term, 
 use Rattle.tracks.specs.Shape.{one-event, joins-events, before-first, ascends, upward, from-on, walked}
 use Rattle.tracks.specs.Shape.{shaped, judged, read}
 use Rattle.tracks.specs.Shape as Shape
-
--- the characters of a text that is written with `/` for LF
-typed : String → List ℕ
-typed no-character = []
-typed (c before s) = choose (eqb (code c) 47) LF (code c) ∷ typed s
 
 -- a text with one of its lines replaced
 with-line : String → String → String → String
@@ -136,7 +130,7 @@ unfolding
     carried started leads parents ended member one-side by-side same both-sides with-right in-sequence by-left
     at-Ω then step after over-room within-room whole answered answer character hex text begins under lookup
     present keep heads on-side next joins among walk order Saved.placed numbered row rows rows-up canonical
-    Saved.two opening-frame node-frame pair-frame frames
+    Line.two opening-frame node-frame pair-frame frames
 cases-saved = refl
 
 -- a text for a table, with the number and line of its refusal, both 0 where it is read

@@ -10,12 +10,12 @@ use lib.ListN.{length, getD, take, drop, length-drop, drop-of-length-le}
 use lib.Seq.{drop-cons, drop-drop}
 use lib.Dec.{eqb}
 use borrow.Author.Tests.{eqb-true, eq-eqb}
-use Rattle.lines.specs.Line.{choose, number, number-from}
+use Rattle.lines.specs.Line.{choose, number, number-from, two}
 use Rattle.lines.specs.Line.{Bytes, no-bytes, byte-first, Frames, frame-first}
 use Rattle.lines.proofs.Digits.{both}
 use Rattle.places.specs.Place.{Place}
 use Rattle.report.specs.Track.{Pair}
-use Rattle.tracks.specs.Saved.{two, node-frame, pair-frame, arc-code, meeting-code, last-frame}
+use Rattle.tracks.specs.Saved.{node-frame, pair-frame, arc-code, meeting-code, last-frame}
 use Rattle.tracks.specs.Parsed.{Frame, opening, node, arc, meeting, last, wrong}
 use Rattle.tracks.specs.Parsed.{number-at, pair-at, place-at, formed, frame-of}
 

@@ -11,13 +11,13 @@ use mathlib.Core.Logic.{_⊎_, inl, inr}
 use native.Mathlib.Omega.{arith}
 use lib.ListN.{length, getElem?}
 use lib.Dec.{ltb}
-use Rattle.lines.specs.Line.{choose, text, lines}
+use Rattle.lines.specs.Line.{choose, two, text, lines}
 use Rattle.terms.specs.Term.{Term, Shallow}
 use Rattle.report.specs.Track.{lookup}
 use Rattle.report.specs.Run.{State, start, Reached}
 use Rattle.tracks.specs.Graph.{Graph, graph-of, present, labelled, keep}
 use Rattle.tracks.specs.Walk.{among, walk, order}
-use Rattle.tracks.specs.Saved.{numbered, rows, rows-up, canonical, opening-frame, two, frames}
+use Rattle.tracks.specs.Saved.{numbered, rows, rows-up, canonical, opening-frame, frames}
 use Rattle.tracks.specs.Saved.{graph-text, saved}
 use Rattle.tracks.specs.Parsed.{Parsed, says, refused, parsed}
 use Rattle.tracks.specs.Shape.{shaped, judged, read}

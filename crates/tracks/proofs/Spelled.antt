@@ -12,13 +12,13 @@ use lib.ListN.{length, take, replicate, length-append, length-map}
 use lib.Seq.{append-snoc}
 use lib.Dec.{leb, eqb}
 use borrow.Author.Tests.{eqb-true, eq-eqb, leb-true, le-leb}
-use Rattle.lines.specs.Line.{Raw, frame, lines, hex, text, LF}
+use Rattle.lines.specs.Line.{Raw, frame, lines, two, hex, text, LF}
 use Rattle.lines.proofs.Digits.{both}
 use Rattle.lines.proofs.Written.{frames-back, text-back}
 use Rattle.report.specs.Track.{Label, Pair}
 use Rattle.report.specs.Run.{node-room, arc-room, meeting-room}
 use Rattle.tracks.specs.Graph.{Graph}
-use Rattle.tracks.specs.Saved.{two, opening-frame, node-frame, pair-frame, arc-code, meeting-code}
+use Rattle.tracks.specs.Saved.{opening-frame, node-frame, pair-frame, arc-code, meeting-code}
 use Rattle.tracks.specs.Saved.{last-frame, frames, graph-text}
 use Rattle.tracks.specs.Parsed.{Frame, opening, node, arc, meeting, last, wrong, dues, first-refusal}
 use Rattle.tracks.specs.Parsed.{a-node, an-arc, a-meeting, the-last, taken, nothing, says}

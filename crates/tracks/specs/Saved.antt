@@ -1,11 +1,11 @@
 -- The saved track. Document 01, 'Lines' (Saved track) and 'Saving and reading': the graph by the numbers of the walk,
 -- and its frames.
-use Prim.Native.Nat.{ℕ, suc, _/_, _%_}
+use Prim.Native.Nat.{ℕ, suc}
 use mathlib.Core.Bool.{Bool}
 use mathlib.Core.List.{List, [], _∷_, _++_, map}
 use mathlib.Core.Option.{Option, none, some}
 use lib.ListN.{length}
-use Rattle.lines.specs.Line.{choose, text}
+use Rattle.lines.specs.Line.{choose, two, text}
 use Rattle.places.specs.Place.{Place}
 use Rattle.report.specs.Track.{Label, Pair, pair, lookup}
 use Rattle.tracks.specs.Graph.{Graph, joins, meets}
@@ -43,10 +43,6 @@ canonical g = record {
   arcs = rows (joins (g .arcs)) (order g) 0 (order g);
   meetings = rows-up (meets (g .meetings)) 0 (order g);
 }
-
--- a number of two bytes
-unfoldable pub two : ℕ → List ℕ
-two n = n / 256 % 256 ∷ n % 256 ∷ []
 
 -- 30 01 nnnn aaaa ssss: nodes, arcs, meetings
 unfoldable pub opening-frame : Graph → List ℕ

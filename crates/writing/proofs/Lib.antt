@@ -1,5 +1,3 @@
--- Laws of writing: `Putting` of characters put into a slice, `Spelt` of the lines that are put, `Whole` of the
--- text of a graph and of the answer.
-pub mod Putting
+-- Laws of writing: `Spelt` of the lines that are put, `Whole` of the text of a graph and of the answer.
 pub mod Spelt
 pub mod Whole

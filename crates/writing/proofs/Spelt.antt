@@ -1,16 +1,18 @@
--- The lines that are put, by their bytes: a line is its bytes' characters and LF, and lines are put one behind
--- another. The place that a mark tells is what `places::place` answered with what it left in front of the lent
--- path, so a node's line is its frame's. A cursor goes as far as the lines in front of it are long. Assumes
--- nothing.
-use Prim.Native.Nat.{ℕ, zero, suc, _+_, _*_, _-_, _/_, _%_, _≤_, _<_}
-use mathlib.Core.Path.{_≡_, refl, sym, ap, _∙_}
-use mathlib.Core.List.{List, [], _∷_, _++_, map, append-assoc}
+-- The lines that are put, frame by frame: what a frame is made of, put one behind another, is its line. The place
+-- that a mark tells is what `places::place` answered with what it left in front of the lent path, so a node's line
+-- is its frame's. A cursor goes as far as the lines in front of it are long. Assumes nothing.
+use Prim.Native.Nat.{ℕ, zero, suc, _+_, _*_, _-_, _≤_, _<_}
+use mathlib.Core.Path.{_≡_, refl, ap, _∙_}
+use mathlib.Core.List.{List, [], _∷_, _++_, map}
 use mathlib.Core.Option.{Option, none, some}
 use native.Mathlib.Omega.{arith}
 use native.Mathlib.Numerals.{add-one}
 use lib.ListN.{length, take, getD, length-take}
 use lib.Seq.{sets, sets-eq, length-sets, take-at, slice, slice-cons, slice-empty}
-use Rattle.lines.specs.Line.{hex, text, LF}
+use Rattle.lines.specs.Line.{two, hex, text, LF}
+use Rattle.spelling.specs.Puts.{Puts}
+use Rattle.spelling.proofs.Putting.{puts-then, Owed, owed-all, owed-less, owed-none}
+use Rattle.spelling.proofs.Spelt.{owed-line}
 use Rattle.report.specs.Track.{Label, pair}
 use Rattle.places.specs.Code.{Columns, digits, told, answer, literal-path, literal-definition}
 use Rattle.places.specs.declared.Literal.{Literal}
@@ -19,25 +21,11 @@ use Rattle.plans.specs.Laid.{found, place-of}
 use Rattle.plans.proofs.LaidRooms.{place-short}
 use Rattle.control.specs.Words.{track-word}
 use Rattle.stepping.specs.Views.{pairs}
-use Rattle.tracks.specs.Saved.{two, node-frame, pair-frame}
+use Rattle.tracks.specs.Saved.{node-frame, pair-frame}
 use Rattle.tracks.proofs.Spelled.{hex-length, line-length, pairs-length}
 use Rattle.walks.specs.Columns.{at}
 use Rattle.writing.specs.Told.{literal, labels-told}
-use Rattle.writing.specs.Code.{Puts, told-length, told-definition}
-use Rattle.writing.proofs.Putting.{puts-then, Owed, owed-all, owed-less, owed-none}
-
--- a number's two bytes
-pub number-spelt : {a b c : ℕ} {s t u : List ℕ} (n : ℕ) → Puts a (hex (n / 256 % 256 ∷ [])) s t b
-    → Puts b (hex (n % 256 ∷ [])) t u c
-    → Puts a (hex (two n)) s u c
-unfolding hex two
-number-spelt n p q = puts-then p q
-
--- a line of one byte
-pub last-spelt : {a b c : ℕ} {s t u : List ℕ} (x : ℕ) → Puts a (hex (x ∷ [])) s t b → Puts b (LF ∷ []) t u c
-    → Puts a (text ((x ∷ []) ∷ [])) s u c
-unfolding hex text
-last-spelt x p q = puts-then p q
+use Rattle.writing.specs.Code.{told-length, told-definition}
 
 -- a line of a pair
 pub pair-spelt : {a b c d e : ℕ} {s t u v w : List ℕ} (x m n : ℕ) → Puts a (hex (x ∷ [])) s t b
@@ -78,20 +66,6 @@ unfolding hex text two
 node-spelt i k m n ps p q r p′ q′ z =
     puts-then (puts-then (puts-then (puts-then (puts-then p q) r) p′) q′) z
 
--- the first of some lines, and the rest
-text-first : (bs : List ℕ) (fs : List (List ℕ)) → text (bs ∷ fs) ≡ text (bs ∷ []) ++ text fs
-unfolding text
-text-first bs fs = sym (append-assoc (hex bs) (LF ∷ []) (text fs))
-
--- lines in two parts
-pub text-append : (fs hs : List (List ℕ)) → text (fs ++ hs) ≡ text fs ++ text hs
-unfolding text
-text-append [] hs = refl
-text-append (bs ∷ fs) hs =
-    text-first bs (fs ++ hs) ∙ ap (λ (l : List ℕ). text (bs ∷ []) ++ l) (text-append fs hs)
-    ∙ sym (append-assoc (text (bs ∷ [])) (text fs) (text hs))
-    ∙ ap (λ (l : List ℕ). l ++ text hs) (sym (text-first bs fs))
-
 -- a path of n digits is at most 2 n characters
 pub digits-short : (n : ℕ) (ps : List ℕ) → length (hex (take n ps)) ≤ 2 * n
 digits-short n ps = omega (arith, hex-length (take n ps), length-take n ps)
@@ -114,12 +88,7 @@ module _ {xs s t : List ℕ} {a b : ℕ} where
   pairs-put k base g i n h o = let z : n - i ≡ 0 = omega arith in owed-none (rw z at o)
 
 module _ {xs s t u : List ℕ} {a b e : ℕ} where
-  -- a line less is owed
-  owed-line : (bs : List ℕ) (fs : List (List ℕ)) → Owed xs a s (text (bs ∷ fs)) b t → Puts b (text (bs ∷ [])) t u e
-      → Owed xs a s (text fs) e u
-  owed-line bs fs o p = owed-less (rw (text-first bs fs) at o) p
-
-  -- a digit of a path less
+  -- a digit of a path less is owed
   pub digit-less : (ps : List ℕ) (i n : ℕ) → i < n → n ≤ length ps → Owed xs a s (hex (slice i n ps)) b t
       → Puts b (hex (getD ps i 0 ∷ [])) t u e
       → Owed xs a s (hex (slice (i + 1) n ps)) e u

@@ -9,21 +9,22 @@ use native.Mathlib.Omega.{arith}
 use lib.ListN.{length}
 use lib.Dec.{leb}
 use borrow.Author.Tests.{le-leb, lt-leb}
-use Rattle.lines.specs.Line.{text}
+use Rattle.lines.specs.Line.{two, text}
+use Rattle.spelling.specs.Puts.{Puts}
+use Rattle.spelling.proofs.Putting.{puts-then}
+use Rattle.spelling.proofs.Spelt.{text-append}
 use Rattle.report.specs.Run.{arc-room, meeting-room}
 use Rattle.control.specs.Words.{reference-room}
 use Rattle.places.specs.Code.{Columns}
 use Rattle.stepping.specs.Views.{pairs}
 use Rattle.tracks.specs.Graph.{Graph}
-use Rattle.tracks.specs.Saved.{two, opening-frame, node-frame, pair-frame, arc-code, meeting-code, last-frame}
+use Rattle.tracks.specs.Saved.{opening-frame, node-frame, pair-frame, arc-code, meeting-code, last-frame}
 use Rattle.tracks.specs.Saved.{frames, graph-text}
 use Rattle.tracks.proofs.Spelled.{nodes-length, text-length}
 use Rattle.walks.specs.declared.Counts.{Counts}
 use Rattle.writing.specs.declared.Saved.the-variants.{Written, Short}
 use Rattle.writing.specs.Told.{labels-told, graph-told, answer, left}
-use Rattle.writing.specs.Code.{Puts}
-use Rattle.writing.proofs.Putting.{puts-then}
-use Rattle.writing.proofs.Spelt.{text-append, pairs-count, nodes-count}
+use Rattle.writing.proofs.Spelt.{pairs-count, nodes-count}
 
 -- the text of a graph, a part behind another
 parts : (g : Graph)

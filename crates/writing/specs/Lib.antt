@@ -1,4 +1,4 @@
--- `Told` is the graph that columns tell, and what writing it comes to; `Code` is what putting characters comes
--- to.
+-- `Told` is the graph that columns tell, and what writing it comes to; `Code` is what an answer of
+-- `places::place` tells.
 pub mod Told
 pub mod Code

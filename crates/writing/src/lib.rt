@@ -1,13 +1,13 @@
 // Graphs written: a graph in columns becomes lines of hexadecimal in a lent slice. Its length is told first, so that a slice
 // that is too short is left as it was.
+mod framing;
 mod nodes;
-mod spelling;
 
+use framing::put_last;
+use framing::put_opening;
+use framing::put_pairs;
 use nodes::nodes_length;
 use nodes::put_nodes;
-use spelling::put_last;
-use spelling::put_opening;
-use spelling::put_pairs;
 use walks::Counts;
 use walks::at_most;
 ghost use mathlib.Core.Path.{_≡_};

@@ -1,20 +1,21 @@
 // Nodes' lines: a mark's literal, its place, and the line that tells it.
-use crate::spelling::put_byte;
-use crate::spelling::put_end;
-use crate::spelling::put_number;
 use places::Literal;
 use places::Placed;
 use places::place;
+use spelling::put_byte;
+use spelling::put_end;
+use spelling::put_number;
 use walks::reference_word;
 ghost use mathlib.Core.Path.{_≡_};
 ghost use mathlib.Core.List.{map, [], _∷_, _++_};
 ghost use Prim.Native.Nat.{_+_, _*_, _≤_};
 ghost use lib.ListN.{length, take};
-ghost use Rattle.lines.specs.Line.{hex, text};
+ghost use Rattle.lines.specs.Line.{two, hex, text};
+ghost use Rattle.spelling.specs.Puts.{Puts};
 ghost use Rattle.places.specs.Code.{columns};
-ghost use Rattle.tracks.specs.Saved.{two, node-frame};
+ghost use Rattle.tracks.specs.Saved.{node-frame};
 ghost use Rattle.writing.specs.Told.{literal, labels-told};
-ghost use Rattle.writing.specs.Code.{Puts, told-length, told-definition};
+ghost use Rattle.writing.specs.Code.{told-length, told-definition};
 
 // No table has it: the definition of a mark that tells no place.
 const NOWHERE: u8 = 64;

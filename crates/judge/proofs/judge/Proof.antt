@@ -3,6 +3,7 @@
 use mathlib.Core.Path.{sym}
 use lib.Seq.{length-take-le}
 use borrow.Author.Needs.{needs}
+use Rattle.inputs.proofs.Cutting.{table-within}
 use Rattle.judge.proofs.judge.Statement.{statement}
 use Rattle.judge.proofs.judge.Tie as tie
 
@@ -10,7 +11,7 @@ table-end-requires : tie.Need-table-end-requires
 table-end-requires c κs = search needs
 
 slice-aggregate-check : tie.Need-slice-aggregate-check
-slice-aggregate-check c = sym (length-take-le _ _ (c .before .table-end .ensures))
+slice-aggregate-check c = sym (length-take-le _ _ (rw (c .before .table-end .ensures) (table-within _)))
 
 check-requires : tie.Need-check-requires
 check-requires c κs = search needs
@@ -31,10 +32,12 @@ say-table-requires : tie.Need-say-table-requires
 say-table-requires c κs = search needs
 
 sub-say-script : tie.Need-sub-say-script
-sub-say-script c = search needs
+sub-say-script c =
+    let checked = c .before .before .before .before .before .before .before .before .before in
+    rw (checked .before .before .before .before .before .before .before .table-end .ensures) (table-within _)
 
 part-say-script-start : tie.Need-part-say-script-start
-part-say-script-start c = search needs
+part-say-script-start c = sub-say-script c
 
 part-say-script-end : tie.Need-part-say-script-end
 part-say-script-end c = search needs

@@ -3,6 +3,7 @@
 use mathlib.Core.Path.{sym}
 use lib.Seq.{length-take-le}
 use borrow.Author.Needs.{needs}
+use Rattle.inputs.proofs.Cutting.{table-within}
 use Rattle.play.proofs.play_input.Statement.{statement}
 use Rattle.play.proofs.play_input.Tie as tie
 
@@ -10,7 +11,7 @@ table-end-requires : tie.Need-table-end-requires
 table-end-requires c κs = search needs
 
 slice-aggregate-check : tie.Need-slice-aggregate-check
-slice-aggregate-check c = sym (length-take-le _ _ (c .before .table-end .ensures))
+slice-aggregate-check c = sym (length-take-le _ _ (rw (c .before .table-end .ensures) (table-within _)))
 
 check-requires : tie.Need-check-requires
 check-requires c κs = search needs
@@ -25,10 +26,12 @@ enum-known-checked-2 : tie.Need-enum-known-checked-2
 enum-known-checked-2 c = search needs
 
 sub-play-script : tie.Need-sub-play-script
-sub-play-script c = search needs
+sub-play-script c =
+    let checked = c .before .before .before in
+    rw (checked .before .before .before .before .before .before .before .table-end .ensures) (table-within _)
 
 part-play-script-start : tie.Need-part-play-script-start
-part-play-script-start c = search needs
+part-play-script-start c = sub-play-script c
 
 part-play-script-end : tie.Need-part-play-script-end
 part-play-script-end c = search needs

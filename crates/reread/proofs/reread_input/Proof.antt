@@ -3,6 +3,7 @@
 use mathlib.Core.Path.{sym}
 use lib.Seq.{length-take-le}
 use borrow.Author.Needs.{needs}
+use Rattle.inputs.proofs.Cutting.{table-within}
 use Rattle.reread.proofs.reread_input.Statement.{statement}
 use Rattle.reread.proofs.reread_input.Tie as tie
 
@@ -10,7 +11,7 @@ table-end-requires : tie.Need-table-end-requires
 table-end-requires c κs = search needs
 
 slice-aggregate-check : tie.Need-slice-aggregate-check
-slice-aggregate-check c = sym (length-take-le _ _ (c .before .table-end .ensures))
+slice-aggregate-check c = sym (length-take-le _ _ (rw (c .before .table-end .ensures) (table-within _)))
 
 check-requires : tie.Need-check-requires
 check-requires c κs = search needs
@@ -25,10 +26,12 @@ enum-known-checked-2 : tie.Need-enum-known-checked-2
 enum-known-checked-2 c = search needs
 
 sub-reread-track : tie.Need-sub-reread-track
-sub-reread-track c = search needs
+sub-reread-track c =
+    let checked = c .before .before .before in
+    rw (checked .before .before .before .before .before .before .before .table-end .ensures) (table-within _)
 
 part-reread-track-start : tie.Need-part-reread-track-start
-part-reread-track-start c = search needs
+part-reread-track-start c = sub-reread-track c
 
 part-reread-track-end : tie.Need-part-reread-track-end
 part-reread-track-end c = search needs

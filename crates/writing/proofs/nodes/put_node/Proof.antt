@@ -2,8 +2,7 @@
 -- of a path, and LF. Assumes nothing.
 use native.Mathlib.Omega.{arith}
 use borrow.Author.Needs.{needs}
-use Rattle.lines.specs.Line.{hex}
-use Rattle.tracks.specs.Saved.{two}
+use Rattle.lines.specs.Line.{two, hex}
 use Rattle.writing.proofs.Spelt.{node-spelt, digits-short}
 use Rattle.writing.proofs.nodes.put_node.Statement.{statement}
 use Rattle.writing.proofs.nodes.put_node.Tie as tie

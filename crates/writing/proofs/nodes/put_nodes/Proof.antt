@@ -7,10 +7,10 @@ use native.Mathlib.Omega.{arith}
 use borrow.Author.Needs.{needs}
 use lib.ListN.{length}
 use Rattle.lines.specs.Line.{text}
+use Rattle.spelling.proofs.Putting.{Owed, owed-length}
 use Rattle.places.specs.Code.{columns}
 use Rattle.tracks.specs.Saved.{node-frame}
 use Rattle.writing.specs.Told.{literal, labels-told}
-use Rattle.writing.proofs.Putting.{Owed, owed-length}
 use Rattle.writing.proofs.Spelt.{answer-short, path-kept, nodes-owed, nodes-put, node-less, nodes-short}
 use Rattle.writing.proofs.nodes.put_nodes.Statement.{statement}
 use Rattle.writing.proofs.nodes.put_nodes.Tie as tie

@@ -6,7 +6,7 @@ use borrow.Author.Needs.{needs}
 use lib.ListN.{take}
 use lib.Seq.{slice}
 use Rattle.lines.specs.Line.{hex}
-use Rattle.writing.proofs.Putting.{Owed, owed-all, owed-length}
+use Rattle.spelling.proofs.Putting.{Owed, owed-all, owed-length}
 use Rattle.writing.proofs.Spelt.{digit-less, digits-put, digits-short}
 use Rattle.writing.proofs.nodes.put_path.Statement.{statement}
 use Rattle.writing.proofs.nodes.put_path.Tie as tie

@@ -1,0 +1,105 @@
+-- The wrong programs that document 01 names ('What each door owes its caller') break the promises of steps, whatever the table
+-- and the run: one that refuses everything, one with a single answer, one that leaves its buffers alone, and one that does the
+-- script at its first line and plays along later. Each accepted step draws a reference, so the words behind it hold neither
+-- the state before it nor any state further on. One fixed track text contradicts `equal-bytes-exactly`, and invented counts
+-- `counts-follow`. Assumes nothing.
+use Prim.Native.Nat.{ℕ, _<_}
+use mathlib.Core.Path.{_≡_, refl, sym, ap, _∙_}
+use mathlib.Core.List.{List}
+use mathlib.Core.Option.{some}
+use native.Mathlib.Omega.{arith}
+use Rattle.tables.specs.Table.{Sofar}
+use Rattle.terms.specs.Term.{Term, definitions-of}
+use Rattle.report.specs.Process.{Event, τ, ✓, visible, Address}
+use Rattle.report.specs.Run.{State, answer}
+use Rattle.report.specs.Run as Run
+use Rattle.report.proofs.Drawing.{accepted-draws}
+use Rattle.plans.specs.Laid.{layout}
+use Rattle.runs.specs.Held.{Table, addressed, told-event, told, behind, answered}
+use Rattle.runs.specs.declared.Answer.{Answer}
+use Rattle.runs.specs.declared.Answer.the-variants.{Accepted, Refused}
+use Rattle.runs.specs.declared.Shown.{Shown}
+use Rattle.runs.proofs.Once.{held-once}
+use Rattle.demands.specs.Words.{Words, HoldsRun, Steps}
+
+-- an event is told by one of the answer's
+told-apart : (e f : Event) → told-event e ≡ told-event f → e ≡ f
+unfolding told-event
+told-apart τ τ q = refl
+told-apart τ ✓ q = let z : _≡_ {A = ℕ} 0 1 = cc in absurd (omega arith)
+told-apart τ (visible n) q = let z : _≡_ {A = ℕ} 0 1 = cc in absurd (omega arith)
+told-apart ✓ τ q = let z : _≡_ {A = ℕ} 0 1 = cc in absurd (omega arith)
+told-apart ✓ ✓ q = refl
+told-apart ✓ (visible n) q = let z : _≡_ {A = ℕ} 0 1 = cc in absurd (omega arith)
+told-apart (visible m) τ q = let z : _≡_ {A = ℕ} 0 1 = cc in absurd (omega arith)
+told-apart (visible m) ✓ q = let z : _≡_ {A = ℕ} 0 1 = cc in absurd (omega arith)
+told-apart (visible m) (visible n) q = let z : m ≡ n = cc in ap visible z
+
+-- states that accepted steps lead to from a state, one or more
+pub data Ahead (ts : List Term) (s : State) : State → Type 0 where
+  next : {t : State} (a : Address) (e : Event) → answer ts s a ≡ Run.accepted e t → Ahead ts s t
+  further : {t u : State} (a : Address) (e : Event) → Ahead ts s t → answer ts t a ≡ Run.accepted e u → Ahead ts s u
+
+ahead-draws : (ts : List Term) (s : State) {t : State} → Ahead ts s t → s .fresh < t .fresh
+ahead-draws ts s (next {t = t} a e h) = accepted-draws ts s t a e h
+ahead-draws ts s (further {t = t} {u = u} a e k h) =
+    omega (arith, ahead-draws ts s k, accepted-draws ts t u a e h)
+
+-- a step by an address that document 01 accepts, from words that hold a run, with an outcome that the step's promise allows
+pub record Accepts (p x : List ℕ) (t : Sofar) (v : Words) (r : Answer) (v′ : Words) (s : State) (e : Event) (s′ : State)
+    : Type 0 where
+  pub digits : List ℕ
+  pub count : ℕ
+  pub address : Address
+  pub held : HoldsRun p x t v s
+  pub promised : Steps p x digits count v r v′
+  pub named : addressed digits count ≡ some address
+  pub accepts : answer (definitions-of t) s address ≡ Run.accepted e s′
+
+-- runs of one table, by a plan that holds its definitions
+module _ {p x : List ℕ} {t : Sofar} (table : Table (layout t) p x (definitions-of t)) where
+  module _ {v v′ : Words} {r : Answer} {s s′ : State} {e : Event} (step : Accepts p x t v r v′ s e s′) where
+    answered-so : answered (definitions-of t) s (addressed (step .digits) (step .count)) ≡ Run.accepted e s′
+    unfolding answered
+    answered-so = ap (answered (definitions-of t) s) (step .named) ∙ step .accepts
+
+    event-told : r ≡ Accepted (record { event = told-event e })
+    unfolding told
+    event-told = step .promised _ (definitions-of t) s table (step .held) .0 ∙ ap told answered-so
+
+    held-behind : HoldsRun p x t v′ s′
+    unfolding behind
+    held-behind =
+        let same : behind s (answered (definitions-of t) s (addressed (step .digits) (step .count))) ≡ s′ =
+        ap (behind s) answered-so in
+        rw (← same) (step .promised _ (definitions-of t) s table (step .held) .1)
+
+    draws : s .fresh < s′ .fresh
+    draws = accepted-draws (definitions-of t) s s′ (step .address) e (step .accepts)
+
+  -- one that refuses everything
+  pub refuses-all : {v v′ : Words} {s s′ : State} {e : Event} (n : ℕ) → Accepts p x t v (Refused n) v′ s e s′ → ⊥
+  refuses-all n step = let q = event-told step in let z : _≡_ {A = ℕ} 0 1 = cc in omega arith
+
+  -- one with a single answer: it would show one event only
+  pub one-answer : {v v′ w w′ : Words} {r : Answer} {s s′ u u′ : State} {e f : Event} → Accepts p x t v r v′ s e s′
+      → Accepts p x t w r w′ u f u′
+      → e ≡ f
+  one-answer {e = e} {f = f} step other =
+      let q = sym (event-told step) ∙ event-told other in
+      let same : _≡_ {A = Shown} (record { event = told-event e }) (record { event = told-event f }) = cc in
+      told-apart e f (ap (λ (shown : Shown). shown .event) same)
+
+  -- one that leaves its buffers alone
+  pub left-alone : {v : Words} {r : Answer} {s s′ : State} {e : Event} → Accepts p x t v r v s e s′ → ⊥
+  left-alone {s = s} {s′ = s′} step =
+      let both = held-once _ p x (definitions-of t) _ _ _ s s′ (step .held) (held-behind step) in
+      omega (arith, draws step, both .same-fresh)
+
+  -- one that does the script at its first line and plays along later: its words would hold a state further on
+  pub runs-ahead : {v v′ : Words} {r : Answer} {s s′ u : State} {e : Event} → Accepts p x t v r v′ s e s′
+      → Ahead (definitions-of t) s′ u → HoldsRun p x t v′ u
+      → ⊥
+  runs-ahead {s′ = s′} {u = u} step on early =
+      let both = held-once _ p x (definitions-of t) _ _ _ s′ u (held-behind step) early in
+      omega (arith, ahead-draws (definitions-of t) s′ on, both .same-fresh)

@@ -1,0 +1,129 @@
+-- What is told of a script over the columns of a checked table is its listing. The words' lines come to what the lines
+-- do, so the events are those of the steps, the status is the control's, and the text that is saved is the track's;
+-- frame by frame they are told alike. Assumes nothing.
+use Prim.Native.Nat.{ℕ}
+use mathlib.Core.Path.{_≡_, refl, sym, ap, ap₂, _∙_}
+use mathlib.Core.List.{List, [], _∷_, _++_, map, append-assoc}
+use lib.ListN.{length, replicate, length-replicate}
+use lib.Dec.{leb}
+use Rattle.lines.specs.Line.{choose, lines, text}
+use Rattle.scripts.specs.Script.{most}
+use Rattle.tables.specs.Table.{Sofar, accepted, judged}
+use Rattle.tables.specs.Columns.{kinds, payloads, owners, afters, roots}
+use Rattle.terms.specs.Term.{Term, definitions-of}
+use Rattle.terms.proofs.Trees.{each-at, checked-trees}
+use Rattle.report.specs.Process.{Event, τ, ✓, visible}
+use Rattle.report.specs.Run.{State, start, Reached}
+use Rattle.report.specs.Offers as Report
+use Rattle.report.proofs.Stuck.{among-offers}
+use Rattle.report.proofs.Ranged.{reached-ranged, ranged-among}
+use Rattle.plans.specs.Laid.{laid-out, layout}
+use Rattle.plans.proofs.LaidRooms.{layout-low}
+use Rattle.offers.specs.Code.{status}
+use Rattle.offers.specs.Told.{Covers, status-of}
+use Rattle.offers.specs.declared.Status.{Status}
+use Rattle.offers.specs.declared.Status.the-variants.{Live, Ended, Stuck}
+use Rattle.offers.proofs.Runs.{run-status}
+use Rattle.runs.specs.Counting.{reference}
+use Rattle.runs.specs.Held.{Holds, told-event}
+use Rattle.runs.proofs.Starting.{start-holds}
+use Rattle.runs.proofs.Tabled.{checked-table}
+use Rattle.tracks.specs.Graph.{graph-of}
+use Rattle.tracks.specs.Saved.{saved}
+use Rattle.saving.specs.Code.{text-of}
+use Rattle.saving.proofs.SavedTold.{saves-told}
+use Rattle.spelling.proofs.Spelt.{text-append}
+use Rattle.listing.specs.Listing.{step-frame, status-frame, end-frames, Played, played, script-room, alone}
+use Rattle.listing.specs.Listing.{within-room, run-listing, table-listing}
+use Rattle.listing.specs.Code.{shown-step, shown-status, Stopped, from-start, stopped-text, run-text}
+use Rattle.listing.specs.Code.{script-text}
+use Rattle.listing.proofs.Played.{Agrees, stepped-agrees}
+
+-- steps are shown by the answers' events as by their own
+step-shown : (e : Event) → shown-step (told-event e) ≡ step-frame e
+unfolding shown-step told-event step-frame
+step-shown τ = refl
+step-shown ✓ = refl
+step-shown (visible k) = refl
+
+steps-shown : (es : List Event) → map shown-step (map told-event es) ≡ map step-frame es
+steps-shown [] = refl
+steps-shown (e ∷ es) = ap₂ _∷_ (step-shown e) (steps-shown es)
+
+-- and a status by the answer's case
+status-shown : (r : Status) → shown-status r ≡ status-frame (status-of r)
+unfolding shown-status status-frame status-of
+status-shown Live = refl
+status-shown Ended = refl
+status-shown Stuck = refl
+
+-- frames, another and more behind them, in parts
+text-parts : (fs : List (List ℕ)) (f : List ℕ) (hs : List (List ℕ))
+    → text fs ++ text (f ∷ []) ++ text hs ≡ text (fs ++ f ∷ hs)
+text-parts fs f hs =
+    append-assoc (text fs) (text (f ∷ [])) (text hs)
+    ∙ sym (text-append fs (f ∷ hs) ∙ ap (λ (b : List ℕ). text fs ++ b) (text-append (f ∷ []) hs))
+
+-- a checked table
+module _ (table : List ℕ) (t : Sofar) (q : judged table ≡ accepted t) where
+  abbrev ts : List Term
+  ts = definitions-of t
+
+  -- its events cover what a run of it offers
+  run-covers : {s : State} → Reached ts s → Covers (t .events) (s .process)
+  run-covers {s} reached =
+      let trees = checked-trees table t q in
+      let ranged = reached-ranged (t .definitions) (t .events) ts
+      (λ k u e. each-at (t .definitions) (t .events) ts (trees .each) k u e .1) (trees .some-definitions) reached in
+      record {
+        in-room = trees .few-events;
+        all-below = λ k. among-offers (t .events) k (s .process)
+            (ranged-among (t .definitions) (t .events) (s .process) ranged);
+      }
+
+  module _ {p x w g c : List ℕ} {s : State} (held : Holds (layout t) p x ts w g c s) where
+    -- the status of a run's words is its control's
+    status-told : shown-status (status p x w (reference c)) ≡ status-frame (Report.status (t .events) (s .process))
+    status-told =
+        status-shown (status p x w (reference c))
+        ∙ rw (held .tells .reference-is)
+        (ap status-frame (run-status p x w (layout t) (layout-low t) (s .reference) (t .events) (s .process)
+        (held .tells .controls) (run-covers (held .reached))))
+
+    -- and their text is its track's
+    track-told : text-of (kinds t) (owners t) (afters t) (roots t) w g c ≡ saved (graph-of s)
+    track-told =
+        saves-told table (kinds t) (owners t) (afters t) (roots t) t
+        (record { checked = q; kinds-are = refl; owners-are = refl; after-are = refl; roots-are = refl })
+        p x w g c s held
+
+  -- what is told of lines that have stopped is their listing
+  stopped-told : (p x : List ℕ) (z : Stopped) (r : Played) → Agrees (layout t) p x ts z r
+      → stopped-text p x (kinds t) (owners t) (afters t) (roots t) z ≡ run-listing (t .events) r
+  unfolding stopped-text run-listing
+  stopped-told p x z r agrees =
+      let held = agrees .holds in
+      rw (agrees .events-are, steps-shown (r .events), agrees .stop-is, status-told held, track-told held)
+      (ap (λ told. told ++ within-room (saved (graph-of (r .state))))
+      (text-parts (map step-frame (r .events)) _ (end-frames (r .end))))
+
+-- a script over the columns of a checked table, from the start: what is told is its listing
+pub run-listed : (table : List ℕ) (t : Sofar) → judged table ≡ accepted t → (script : List ℕ)
+    → run-text (laid-out (length (t .terms)) (kinds t) (payloads t) (afters t) (roots t)) (payloads t) (kinds t)
+    (owners t) (afters t) (roots t) script
+    ≡ run-listing (t .events) (played (definitions-of t) start 1 (lines script))
+unfolding run-text from-start
+run-listed table t q script =
+    let plan = laid-out (length (t .terms)) (kinds t) (payloads t) (afters t) (roots t) in
+    stopped-told table t q plan (payloads t) _ _
+    (stepped-agrees (layout t) plan (payloads t) (definitions-of t) (checked-table table t q) (lines script) 1
+    (replicate most 0) (length-replicate {A = ℕ} most 0) _ _ _ start
+    (start-holds (layout t) plan (payloads t) (definitions-of t)))
+
+-- and by the room of its text, it is the listing behind an accepted table
+pub script-listed : (table : List ℕ) (t : Sofar) → judged table ≡ accepted t → (script : List ℕ)
+    → script-text (length (t .terms)) (kinds t) (payloads t) (owners t) (afters t) (roots t) script
+    ≡ table-listing (accepted t) script
+unfolding script-text table-listing
+script-listed table t q script =
+    ap (λ (told : List ℕ). choose (leb (length script) script-room) told (alone 6 0)) (run-listed table t q script)

@@ -1,0 +1,106 @@
+-- Document 01, 'The program's listing': what the tracking program prints for an input, from bytes to bytes.
+use Prim.Native.Nat.{ℕ, _+_}
+use mathlib.Core.List.{List, [], _∷_, _++_, map}
+use mathlib.Core.Option.{Option, some}
+use lib.ListN.{length}
+use lib.Dec.{leb}
+use Rattle.lines.specs.Line.{choose, Raw, frame, lines, text, two}
+use Rattle.scripts.specs.Script.{Asked, address, asked}
+use Rattle.scripts.specs.Script as Script
+use Rattle.tables.specs.Table.{Judged, accepted, refused, judged}
+use Rattle.terms.specs.Term.{Term, definitions-of}
+use Rattle.report.specs.Process.{Event, τ, ✓, visible, Address}
+use Rattle.report.specs.Run.{State, start, Answer}
+use Rattle.report.specs.Run as Run
+use Rattle.report.specs.Offers.{Status, live, ended, stuck, status}
+use Rattle.runs.specs.Held.{digit-of, with-digit, answered}
+use Rattle.tracks.specs.Graph.{graph-of}
+use Rattle.tracks.specs.Saved.{saved}
+use Rattle.inputs.specs.Cut.{table-text, script-text}
+
+-- 40 00 (τ), 40 01 (✓) or 40 02 ee (event ee): an accepted step
+unfoldable pub step-frame : Event → List ℕ
+step-frame τ = 0x40 ∷ 0 ∷ []
+step-frame ✓ = 0x40 ∷ 1 ∷ []
+step-frame (visible e) = 0x40 ∷ 2 ∷ e ∷ []
+
+-- 41 ss: 00 live, 01 ended, 02 stuck
+unfoldable pub status-frame : Status → List ℕ
+status-frame live = 0x41 ∷ 0 ∷ []
+status-frame ended = 0x41 ∷ 1 ∷ []
+status-frame stuck = 0x41 ∷ 2 ∷ []
+
+-- 4e rr llll: a refusal's number and line
+unfoldable pub refusal-frame : ℕ → ℕ → List ℕ
+refusal-frame n line = 0x4e ∷ n ∷ two line
+
+-- how a script ends: behind its last line, or at the first that is refused, by its number
+pub data End : Type 0 where
+  played-out : End
+  refused-at : ℕ → ℕ → End
+
+-- what a script comes to: the events of its accepted steps, how it ends, and the state that the accepted steps reach
+pub record Played : Type 0 where
+  pub events : List Event
+  pub end : End
+  pub state : State
+
+-- the address that digits are
+unfoldable pub address-of : List ℕ → Option Address
+address-of [] = some []
+address-of (d ∷ ds) = with-digit (digit-of d) (address-of ds)
+
+-- what a line of a script comes to: its own refusal, or its address's answer
+unfoldable pub line-answer : List Term → State → Asked → Answer
+line-answer ts s (address ds) = answered ts s (address-of ds)
+line-answer ts s (Script.refused r) = Run.refused r
+
+-- at line n: an accepted step goes on from the state behind it, and a refusal ends the work
+unfoldable pub goes-on : State → ℕ → (State → Played) → Answer → Played
+goes-on s n rest (Run.accepted e t) =
+    record { events = e ∷ rest t .events; end = rest t .end; state = rest t .state }
+goes-on s n rest (Run.refused r) = record { events = []; end = refused-at r n; state = s }
+
+-- the lines of a script from line n on
+unfoldable pub played : List Term → State → ℕ → List Raw → Played
+played ts s n [] = record { events = []; end = played-out; state = s }
+played ts s n (l ∷ ls) =
+    goes-on s n (λ t. played ts t (n + 1) ls) (line-answer ts s (asked (frame l)))
+
+-- the room of a script's text, and of the slice that the track is saved through
+abbrev pub script-room : ℕ
+script-room = 65536
+
+abbrev pub save-room : ℕ
+save-room = 65536
+
+-- the refusal of a script's line
+unfoldable pub end-frames : End → List (List ℕ)
+end-frames played-out = []
+end-frames (refused-at r n) = refusal-frame r n ∷ []
+
+-- a refusal told alone
+abbrev pub alone : ℕ → ℕ → List ℕ
+alone r n = text (refusal-frame r n ∷ [])
+
+-- a saved track; 12 is told instead where it passes its room
+unfoldable pub within-room : List ℕ → List ℕ
+within-room t = choose (leb (length t) save-room) t (alone 12 0)
+
+-- under a table of so many events: each accepted step, the status, the refusal of a script's line, and the track
+unfoldable pub run-listing : ℕ → Played → List ℕ
+run-listing events r =
+    text (map step-frame (r .events) ++ status-frame (status events (r .state .process)) ∷ end-frames (r .end))
+    ++ within-room (saved (graph-of (r .state)))
+
+-- a refused table, or 6, is told alone
+unfoldable pub table-listing : Judged → List ℕ → List ℕ
+table-listing (refused r n) script = alone r n
+table-listing (accepted t) script =
+    choose (leb (length script) script-room)
+    (run-listing (t .events) (played (definitions-of t) start 1 (lines script)))
+    (alone 6 0)
+
+-- the table is judged whole before the script
+unfoldable pub listing : List ℕ → List ℕ
+listing input = table-listing (judged (table-text input)) (script-text input)

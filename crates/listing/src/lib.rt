@@ -1,0 +1,275 @@
+// The tracking program's listing: from the bytes of an input to the bytes of its output. The table is judged whole, the
+// script is played line by line, and each accepted step, the status, the refusal that ended the script and the saved
+// track are put behind one another. It relies on the doors below for all that is told.
+mod telling;
+
+use inputs::table_end;
+use offers::status_at;
+use plans::lay_out;
+use runs::Played;
+use runs::play;
+use runs::start;
+use saving::save;
+use tables::Checked;
+use tables::check;
+use telling::put_copy;
+use telling::put_event;
+use telling::put_refusal;
+use telling::put_status;
+use walks::wide;
+use writing::Saved;
+ghost use mathlib.Core.Path.{_≡_};
+ghost use mathlib.Core.List.{map};
+ghost use Prim.Native.Nat.{_*_, _≤_};
+ghost use lib.ListN.{length};
+ghost use lib.Seq.{sets as put};
+ghost use Rattle.lines.specs.Line.{text};
+ghost use Rattle.spelling.specs.Puts.{Puts};
+ghost use Rattle.saving.specs.Code.{text-of};
+ghost use Rattle.listing.specs.Listing.{listing, alone, within-room, script-room};
+ghost use Rattle.listing.specs.Code as of;
+
+// Rooms of a script's text and of the slice that a track is saved through.
+const SCRIPT_ROOM: usize = 65536;
+
+const SAVE_ROOM: usize = 65536;
+
+// The numbers of refusal: a text over its room, and a saved text over its slice.
+const OVER_ROOM: u8 = 6;
+
+const SHORT: u8 = 12;
+
+// The counter of the reference where control stands.
+const REFERENCE: usize = 0;
+
+// Puts the listing of an input in front of a slice, as far as the slice goes, and tells how long it is. 131,086 bytes are
+// enough for any.
+pub fn list(input: &[u8], out: &mut [u8]) -> usize
+    ensures { λ r. ⌜ r ≡ length (listing (now (input .entry))) ⌝ }
+    ensures { λ _. ⌜ now (out .exit) ≡ put (now (out .entry)) 0 (listing (now (input .entry))) ⌝ }
+{
+    let mut kinds = [0u8; 1024];
+    let mut payloads = [0u64; 1024];
+    let mut owners = [0u8; 1024];
+    let mut after = [0u16; 1024];
+    let mut roots = [0u16; 64];
+    let end = table_end(input);
+    let checked = check(
+        &input[..end],
+        &mut kinds,
+        &mut payloads,
+        &mut owners,
+        &mut after,
+        &mut roots,
+    );
+    match checked {
+        Checked::Refused { number, line } => put_refusal(number, line, 0, out),
+        Checked::Accepted(counts) => {
+            let terms = counts.terms;
+            list_script(
+                &input[end..],
+                terms,
+                &kinds,
+                &payloads,
+                &owners,
+                &after,
+                &roots,
+                out,
+            )
+        }
+    }
+}
+
+// The listing of a script, over the columns of a table of so many terms.
+fn list_script(
+    script: &[u8],
+    terms: usize,
+    kinds: &[u8; 1024],
+    payloads: &[u64; 1024],
+    owners: &[u8; 1024],
+    after: &[u16; 1024],
+    roots: &[u16; 64],
+    out: &mut [u8],
+) -> usize
+    ensures { λ r. ⌜ Puts 0 (of.script-text terms (now (kinds .entry)) (now (payloads .entry)) (now (owners .entry))
+        (now (after .entry)) (now (roots .entry)) (now (script .entry))) (now (out .entry)) (now (out .exit)) r ⌝ }
+{
+    if SCRIPT_ROOM < script.len() {
+        return put_refusal(OVER_ROOM, 0, 0, out);
+    }
+    let mut plan = [0u16; 4096];
+    lay_out(terms, kinds, payloads, after, roots, &mut plan);
+    list_run(script, kinds, payloads, owners, after, roots, &plan, out)
+}
+
+// The listing of a script within its room: its steps, the status, its refusal and the track.
+fn list_run(
+    script: &[u8],
+    kinds: &[u8; 1024],
+    payloads: &[u64; 1024],
+    owners: &[u8; 1024],
+    after: &[u16; 1024],
+    roots: &[u16; 64],
+    plan: &[u16; 4096],
+    out: &mut [u8],
+) -> usize
+    requires { ⌜ length (now script) ≤ script-room ⌝ }
+    ensures { λ r. ⌜ Puts 0 (of.run-text (now (plan .entry)) (now (payloads .entry)) (now (kinds .entry))
+        (now (owners .entry)) (now (after .entry)) (now (roots .entry)) (now (script .entry)))
+        (now (out .entry)) (now (out .exit)) r ⌝ }
+{
+    let mut nodes = [0u16; 65544];
+    let mut track = [0u16; 28672];
+    let mut counters = [0u16; 8];
+    start(&mut nodes, &mut track, &mut counters);
+    let stop = put_steps(
+        script,
+        plan,
+        payloads,
+        &mut nodes,
+        &mut track,
+        &mut counters,
+        out,
+    );
+    let status = status_at(wide(counters[REFERENCE]), plan, payloads, &nodes);
+    let behind_status = put_status(status, stop.end, out);
+    let behind_stop = put_stop(stop.number, stop.line, behind_status, out);
+    put_track(
+        kinds,
+        owners,
+        after,
+        roots,
+        &nodes,
+        &track,
+        &counters,
+        behind_stop,
+        out,
+    )
+}
+
+// Where a script's steps have stopped: the number of the refusal that ended them, 0 where there was none, its line, and
+// where their lines end in the listing.
+struct Stop {
+    number: u8,
+    line: usize,
+    end: usize,
+}
+
+// Plays a script from its first line on, and puts each accepted step's line, up to the first that is refused.
+fn put_steps(
+    script: &[u8],
+    plan: &[u16; 4096],
+    sets: &[u64; 1024],
+    nodes: &mut [u16; 65544],
+    track: &mut [u16; 28672],
+    counters: &mut [u16; 8],
+    out: &mut [u8],
+) -> Stop
+    requires { ⌜ length (now script) ≤ script-room ⌝ }
+    ensures { λ r. ⌜ r .number ≡ of.from-words (now (plan .entry)) (now (sets .entry)) (now (script .entry))
+        (now (nodes .entry)) (now (track .entry)) (now (counters .entry)) .number ⌝ }
+    ensures { λ r. ⌜ r .line ≡ of.from-words (now (plan .entry)) (now (sets .entry)) (now (script .entry))
+        (now (nodes .entry)) (now (track .entry)) (now (counters .entry)) .line ⌝ }
+    ensures { λ _. ⌜ now (nodes .exit) ≡ of.from-words (now (plan .entry)) (now (sets .entry)) (now (script .entry))
+        (now (nodes .entry)) (now (track .entry)) (now (counters .entry)) .nodes ⌝ }
+    ensures { λ _. ⌜ now (track .exit) ≡ of.from-words (now (plan .entry)) (now (sets .entry)) (now (script .entry))
+        (now (nodes .entry)) (now (track .entry)) (now (counters .entry)) .track ⌝ }
+    ensures { λ _. ⌜ now (counters .exit) ≡ of.from-words (now (plan .entry)) (now (sets .entry)) (now (script .entry))
+        (now (nodes .entry)) (now (track .entry)) (now (counters .entry)) .counters ⌝ }
+    ensures { λ r. ⌜ Puts 0 (text (map of.shown-step (of.from-words (now (plan .entry)) (now (sets .entry))
+        (now (script .entry)) (now (nodes .entry)) (now (track .entry)) (now (counters .entry)) .events)))
+        (now (out .entry)) (now (out .exit)) (r .end) ⌝ }
+    ensures { λ r. ⌜ r .end ≤ 7 * script-room ⌝ }
+{
+    let mut digits = [0u8; 1024];
+    let mut at = 0;
+    let mut line: usize = 1;
+    let mut end = 0;
+    loop {
+        let played = play(script, at, &mut digits, plan, sets, nodes, track, counters);
+        let Played::Stepped { event, next } = played else {
+            return stopped(played, line, end);
+        };
+        end = put_event(event, end, out);
+        at = next;
+        line += 1;
+    }
+}
+
+// Where a script has stopped at a line that is no step.
+fn stopped(played: Played, line: usize, end: usize) -> Stop
+    ensures { λ r. ⌜ (r .number ≡ of.number-of played) × (r .line ≡ line) × (r .end ≡ end) ⌝ }
+{
+    match played {
+        Played::Stepped { event: _, next: _ } => Stop {
+            number: 0,
+            line,
+            end,
+        },
+        Played::Refused(number) => Stop { number, line, end },
+        Played::End => Stop {
+            number: 0,
+            line,
+            end,
+        },
+    }
+}
+
+// Puts the refusal that ended a script, where there was one.
+fn put_stop(number: u8, line: usize, at: usize, out: &mut [u8]) -> usize
+    requires { ⌜ at ≤ 2000000 ⌝ }
+    ensures { λ r. ⌜ Puts at (of.stop-text number line) (now (out .entry)) (now (out .exit)) r ⌝ }
+{
+    if number == 0 {
+        return at;
+    }
+    put_refusal(number, line, at, out)
+}
+
+// Puts a run's saved track, or the refusal 12 where it passes its room.
+fn put_track(
+    kinds: &[u8; 1024],
+    owners: &[u8; 1024],
+    after: &[u16; 1024],
+    roots: &[u16; 64],
+    nodes: &[u16; 65544],
+    track: &[u16; 28672],
+    counters: &[u16; 8],
+    at: usize,
+    out: &mut [u8],
+) -> usize
+    requires { ⌜ at ≤ 2000000 ⌝ }
+    ensures { λ r. ⌜ Puts at (within-room (text-of (now (kinds .entry)) (now (owners .entry)) (now (after .entry))
+        (now (roots .entry)) (now (nodes .entry)) (now (track .entry)) (now (counters .entry))))
+        (now (out .entry)) (now (out .exit)) r ⌝ }
+{
+    let mut labels = [0u16; 8193];
+    let mut graph = [0u16; 28672];
+    let mut marks = [0u16; 8193];
+    let mut sides = [0u16; 16388];
+    let mut pending = [0u16; 16388];
+    let mut numbers = [0u16; 8193];
+    let mut spare = [0u16; 28672];
+    let mut saved_text = [0u8; SAVE_ROOM];
+    let saved = save(
+        kinds,
+        owners,
+        after,
+        roots,
+        nodes,
+        track,
+        counters,
+        &mut labels,
+        &mut graph,
+        &mut marks,
+        &mut sides,
+        &mut pending,
+        &mut numbers,
+        &mut spare,
+        &mut saved_text,
+    );
+    match saved {
+        Saved::Short(_) => put_refusal(SHORT, 0, at, out),
+        Saved::Written(length) => put_copy(&saved_text, length, at, out),
+    }
+}

@@ -1,0 +1,2 @@
+-- `Puts` is what putting characters comes to.
+pub mod Puts

@@ -1,0 +1,145 @@
+"""The cases of document 01, A to M, and the edges around them, kept as files: tests/cases/NAME.in and NAME.out.
+
+    python3 tests/cases.py          runs target/bin/track on every input, handed over whole and in pieces
+    python3 tests/cases.py --make   writes every file again, the outputs by the independent program
+
+The first difference from a kept output ends the run with status 1.
+"""
+
+import argparse
+import itertools
+import pathlib
+import random
+import sys
+import time
+
+import rules
+from differential import side_by_side
+from generate import Padding, padded, step_line, text_of
+from independent import TABLE_ROOM
+from inputs import SIDES, filled, steps_for
+from programs import Answer, answer_in_pieces, answer_of, prepared
+from rules import CELL_ROOM, NODE_ROOM, SAVE_ROOM
+from runs import CASES, LONGEST_NEST, NO_EVENT, call, nest_of, parallel_on, table_of
+
+KEPT = pathlib.Path(__file__).resolve().parent / "cases"
+PIECE_BYTES = (1, 2, 3, 5, 7, 11, 31, 4_093, 16_381)  # over and over
+
+
+# ---- the inputs
+
+
+# document 01's own text of case A, `/` for LF
+TABLE_A = "10010101/1100/12060000000000000001/120200/1207/120200/1208/1f0005/".replace("/", "\n")
+SCRIPT_A = "200000/20000103/20000101/20000102/".replace("/", "\n")
+SCRIPT_B = "200000/20000103/20000102/20000101/".replace("/", "\n")
+
+
+def text_of_case(draft, addresses):
+    return text_of(draft.lines + [step_line(address) for address in addresses])
+
+
+def case_inputs():
+    """Document 01's cases; I and J with the steps that fill a room and one more."""
+    texts = {name: text_of_case(draft, addresses) for name, (draft, addresses) in CASES.items()}
+    for name, room in (("i", NODE_ROOM), ("j", CELL_ROOM)):
+        draft, _ = CASES[name]
+        texts[name] = text_of_case(draft, [()] * (room + 1))
+    return texts | {"a": TABLE_A + SCRIPT_A, "b": TABLE_A + SCRIPT_B, "m": TABLE_A}
+
+
+# lots for `nest_of`, whose shapes here leave nothing to them
+NO_LOTS = random.Random(0)
+
+
+def accepted_steps(*digits):
+    """A run in sixty sides by addresses of so many digits each: a script line of k digits has 7 + 2k bytes."""
+    sides = nest_of(NO_LOTS, "right", parallel_on(NO_EVENT), [call(1)] * LONGEST_NEST)
+    return text_of_case(table_of(sides.term, call(1)), [()] + [sides.parts[count - 1] for count in digits])
+
+
+def saved_in(length):
+    """A run whose saved text has exactly so many bytes."""
+    sides = nest_of(NO_LOTS, "even", parallel_on(NO_EVENT), SIDES)
+    return filled(sides, 20, length, steps_for(length, sides)[0]).text()
+
+
+def table_in(length):
+    """A table's text of exactly so many bytes, SKIP after SKIP behind a complete definition."""
+    return padded(["10010100", "1100", "1207"], Padding("", "1207\n", "1f0001\n"), length) + SCRIPT_A
+
+
+def edge_inputs():
+    return {
+        "empty": "",
+        "table-without-last-lf": TABLE_A[:-1],
+        "script-without-last-lf": (TABLE_A + SCRIPT_A)[:-1],
+        "table-ends-early": TABLE_A.removesuffix("1f0005\n"),
+        "table-refused": TABLE_A.replace("1f0005", "1f0004") + SCRIPT_A,
+        "table-32768": table_in(TABLE_ROOM),
+        "table-32769": table_in(TABLE_ROOM + 1),
+        "script-65536": accepted_steps(*[59] * 524, 11),
+        "script-65537": accepted_steps(*[59] * 524, 1, 7),
+        "saved-65536": saved_in(SAVE_ROOM),
+        "saved-65537": saved_in(SAVE_ROOM + 1),
+    }
+
+
+def make():
+    """Writes every input and its output."""
+    KEPT.mkdir(exist_ok=True)
+    for name, text in (case_inputs() | edge_inputs()).items():
+        given = text.encode("ascii")
+        (KEPT / f"{name}.in").write_bytes(given)
+        (KEPT / f"{name}.out").write_bytes(rules.listing(given))
+
+
+# ---- the run
+
+
+def kept(name):
+    """The input and the output of a name."""
+    return (KEPT / f"{name}.in").read_bytes(), (KEPT / f"{name}.out").read_bytes()
+
+
+def kept_names():
+    return sorted(path.stem for path in KEPT.glob("*.in"))
+
+
+def pieces_of(given):
+    """The input in pieces of odd sizes, most of which end within a line."""
+    ends = itertools.takewhile(lambda end: end < len(given), itertools.accumulate(itertools.cycle(PIECE_BYTES)))
+    cuts = [0, *ends, len(given)]
+    return [given[start:end] for start, end in itertools.pairwise(cuts)]
+
+
+def is_different(started, name):
+    """Whether the program's answer to an input, whole or in pieces, is another one; if so, it is told."""
+    given, expected = kept(name)
+    answers = {"whole": answer_of(started, given), "in pieces": answer_in_pieces(started, pieces_of(given))}
+    for handed, answer in answers.items():
+        if answer != Answer(expected, ""):
+            print(f"DIFFERENT: {KEPT / name}.in, handed over {handed}", answer.trouble)
+            print(side_by_side(expected, answer.output))
+            return True
+    return False
+
+
+def run():
+    """Every kept case; gives the exit status."""
+    began, names = time.monotonic(), kept_names()
+    with prepared("track") as started:
+        if any(is_different(started, name) for name in names):
+            return 1
+    print(f"cases: {len(names)} inputs, whole and in pieces, no difference; {time.monotonic() - began:.1f} s")
+    return 0
+
+
+def main():
+    arguments = argparse.ArgumentParser(description="hold target/bin/track against the kept cases")
+    arguments.add_argument("--make", action="store_true", help="write the kept cases again")
+    return make() if arguments.parse_args().make else run()
+
+
+if __name__ == "__main__":
+    sys.exit(main())

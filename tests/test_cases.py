@@ -1,0 +1,174 @@
+"""Tests of the kept cases: their outputs are the independent program's, and say what document 01 says of each.
+
+A text is written as document 01 writes its case A: `/` for LF.
+"""
+
+import re
+import unittest
+
+import cases
+from independent import SCRIPT_ROOM, TABLE_ROOM, cut_input
+from rules import SAVE_ROOM, listing
+from test_rules import CASE_A_TRACK, text
+
+
+def told(name):
+    """The lines of a kept output."""
+    return cases.kept(name)[1].decode("ascii").splitlines()
+
+
+def events_and_status(name):
+    """The lines before the refusal and the track, joined."""
+    return "/".join(line for line in told(name) if line[:2] in ("40", "41"))
+
+
+def refusals(name):
+    return [line for line in told(name) if line.startswith("4e")]
+
+
+def track(name):
+    return [line for line in told(name) if line.startswith("3")]
+
+
+def counts(name):
+    """The nodes, arcs and meetings that the first line of a saved track tells."""
+    opening = track(name)[0]
+    return tuple(int(opening[at : at + 4], 16) for at in (4, 8, 12))
+
+
+class Kept(unittest.TestCase):
+    def test_every_case_is_kept(self):
+        names = cases.case_inputs() | cases.edge_inputs()
+        files = {path.name for path in cases.KEPT.iterdir()}
+        self.assertEqual(files, {name + end for name in names for end in (".in", ".out")})
+
+    def test_inputs(self):
+        for name, given in (cases.case_inputs() | cases.edge_inputs()).items():
+            self.assertEqual(cases.kept(name)[0], given.encode("ascii"), name)
+
+    def test_outputs(self):
+        for name in cases.kept_names():
+            given, output = cases.kept(name)
+            self.assertEqual(output, listing(given), name)
+
+    def test_pieces(self):
+        for name in cases.kept_names():
+            given, _ = cases.kept(name)
+            self.assertEqual(b"".join(cases.pieces_of(given)), given)
+        self.assertEqual([len(piece) for piece in cases.pieces_of(bytes(30))], [1, 2, 3, 5, 7, 11, 1])
+
+
+class Cases(unittest.TestCase):
+    """What document 01 says of its cases."""
+
+    def test_a(self):
+        table = "10010101/1100/12060000000000000001/120200/1207/120200/1208/1f0005/"
+        self.assertEqual(cases.kept("a")[0], text(table + "200000/20000103/20000101/20000102/"))
+        self.assertEqual(cases.kept("a")[1], text("4000/400200/4000/4000/4102/" + CASE_A_TRACK))
+
+    def test_b(self):
+        lines = [cases.kept(name)[0].splitlines() for name in "ab"]
+        self.assertEqual(lines[1], lines[0][:-2] + lines[0][-1:] + lines[0][-2:-1])
+        self.assertEqual(track("b"), track("a"))
+
+    def test_c(self):
+        self.assertEqual(track("c-12"), track("c-21"))
+        self.assertEqual(counts("c-12"), (6, 5, 0))
+        self.assertIn("31000200020101", track("c-12"))
+        self.assertEqual(events_and_status("c-12"), "4000/400200/400201/4100")
+        self.assertEqual(events_and_status("c-21"), "4000/400201/400200/4100")
+
+    def test_d(self):
+        self.assertEqual((events_and_status("d"), counts("d")), ("4000/4000/4000/4001/4101", (4, 3, 0)))
+
+    def test_e(self):
+        self.assertEqual((events_and_status("e"), counts("e")), ("4000/4000/4000/4000/4100", (5, 5, 0)))
+        self.assertLess({"3100030000", "3200020003", "3200040003"}, set(track("e")))
+
+    def test_f(self):
+        self.assertEqual((events_and_status("f"), counts("f")[0]), ("4000/4001/4101", 3))
+
+    def test_g(self):
+        self.assertEqual((events_and_status("g"), counts("g")), ("4000/4000/400200/4100", (5, 4, 0)))
+
+    def test_h(self):
+        self.assertEqual((events_and_status("h"), counts("h")[2]), ("4000/400200/4100", 3))
+
+    def test_i(self):
+        self.assertEqual(told("i"), ["4000"] * 4_096 + ["4100", "4e09%04x" % 4_097, "4e0c0000"])
+
+    def test_j(self):
+        self.assertEqual(events_and_status("j"), "4000/" * 1_024 + "4100")
+        self.assertEqual((refusals("j"), counts("j")), (["4e08%04x" % 1_025], (1_024, 1_023, 0)))
+
+    def test_k(self):
+        for name in ("k-1", "k-3"):
+            self.assertEqual((events_and_status(name), refusals(name)), ("4000/4100", ["4e070002"]))
+        self.assertEqual((events_and_status("k-2"), refusals("k-2")), ("4000/400201/4100", []))
+
+    def test_l(self):
+        self.assertEqual(events_and_status("l-64"), "4000/" + "400200/" * 64 + "4001/4101")
+        self.assertEqual(told("l-65"), ["4e05%04x" % 67])
+
+    def test_m(self):
+        self.assertEqual(told("m"), ["4100", "3001000000000000", "3f"])
+
+
+PROVED = cases.KEPT.parent.parent / "crates" / "listing" / "proofs" / "Cases.antt"
+TOKEN = re.compile(r'"([^"]*)"|([^\s()"]+)')
+
+
+def proved_rows():
+    """The rows of the table that is proved, each an input and an output as they are typed there."""
+    source = re.sub(r"^\s*--.*$", "", PROVED.read_text("utf-8"), flags=re.MULTILINE)
+    typed = dict(re.findall(r"^(\S+) : String\n\1 =((?:.|\n)*?)\n\n", source, flags=re.MULTILINE))
+    table = re.search(r"^cases =((?:.|\n)*?)∷ \[\]", source, flags=re.MULTILINE)[1]
+
+    def joined(words):
+        tokens = [token for token in TOKEN.findall(words) if token[1] != "++"]
+        return "".join(string or joined(typed[name]) for string, name in tokens)
+
+    for row in re.split(r"\bcase\b", table)[1:]:
+        operands = re.findall(r'\([^()]*\)|"[^"]*"|[^\s()"∷]+', row)
+        yield tuple(joined(operand.strip("()")) for operand in operands)
+
+
+class Proved(unittest.TestCase):
+    def test_the_table_that_is_proved_is_kept(self):
+        names = ("a", "b", "c-12", "c-21", "d", "e", "f", "g", "h", "k-1", "k-3", "k-2", "m")
+        rows = list(proved_rows())
+        self.assertEqual(len(rows), len(names))
+        for name, (given, expected) in zip(names, rows):
+            self.assertEqual(cases.kept(name), (text(given), text(expected)), name)
+
+
+class Edges(unittest.TestCase):
+    def test_texts_that_end_early(self):
+        self.assertEqual(told("empty"), ["4e020001"])
+        self.assertEqual(told("table-ends-early"), ["4e020008"])
+        self.assertEqual(told("table-without-last-lf"), ["4e010008"])
+        name = "script-without-last-lf"
+        self.assertEqual((events_and_status(name), refusals(name)), ("4000/400200/4000/4100", ["4e010004"]))
+
+    def test_a_refused_table(self):
+        self.assertEqual(told("table-refused"), ["4e030008"])
+
+    def test_table_text(self):
+        for length, refusal in ((TABLE_ROOM, "4e040004"), (TABLE_ROOM + 1, "4e060000")):
+            self.assertEqual(len(cut_input(cases.kept(f"table-{length}")[0])[0]), length)
+            self.assertEqual(told(f"table-{length}"), [refusal])
+
+    def test_script_text(self):
+        for length in (SCRIPT_ROOM, SCRIPT_ROOM + 1):
+            self.assertEqual(len(cut_input(cases.kept(f"script-{length}")[0])[1]), length)
+        full = "script-65536"
+        self.assertEqual((events_and_status(full), refusals(full)), ("4000/" * 526 + "4100", []))
+        self.assertEqual(told("script-65537"), ["4e060000"])
+
+    def test_saved_text(self):
+        self.assertEqual(len("/".join(track("saved-65536")) + "/"), SAVE_ROOM)
+        self.assertEqual((track("saved-65537"), refusals("saved-65537")), ([], ["4e0c0000"]))
+
+
+if __name__ == "__main__":
+    unittest.main()
