@@ -42,12 +42,12 @@ use Rattle.numbering.proofs.Listed.{pairs-back, flat-length}
 use Rattle.writing.specs.Told.{literal, place-by, labels-told, graph-told}
 use Rattle.writing.specs.declared.Saved.{Saved}
 use Rattle.saving.specs.Kept as Saving
-use Rattle.reading.specs.Found.{marks-of}
-use Rattle.reading.specs.Rules.{answer, labels-left, graph-left}
+use Rattle.parsing.specs.Found.{marks-of}
+use Rattle.parsing.proofs.FoundLaws.{DefinitionsBelow}
+use Rattle.reading.specs.Outcome.{answer, labels-left, graph-left}
 use Rattle.reading.specs.Kept.{Table-of, Reads}
 use Rattle.reading.specs.declared.Read.{Read}
 use Rattle.reading.specs.declared.Read.the-variants.{Accepted, Refused}
-use Rattle.reading.proofs.FoundLaws.{DefinitionsBelow}
 use Rattle.reading.proofs.MarksTold.{marks-telling}
 use Rattle.demands.specs.Words.{Words, HoldsRun, SavesWords, Writes, told-by, counts-of}
 use Rattle.demands.specs.Bytes.{bytes-of}

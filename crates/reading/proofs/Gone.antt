@@ -12,14 +12,14 @@ use Rattle.tracks.specs.Graph.{Graph}
 use Rattle.tracks.specs.Parsed.{Due, a-node, an-arc, a-meeting, the-last, dues, nothing, says, refused}
 use Rattle.tracks.specs.Parsed.{Parsed, parsed}
 use Rattle.walks.specs.Columns.{flat}
-use Rattle.reading.specs.Found.{marks-of}
-use Rattle.reading.specs.Rules.{answer, Held}
-use Rattle.reading.specs.Phases.{labelled, due-of, with-pairs, ahead, Counted, Begun, failed, stopped}
-use Rattle.reading.specs.Phases.{NodesRead, NodesTold, PairsRead, PairsTold, EndTold, LastTold}
-use Rattle.reading.specs.declared.framing.Opened.{Opened}
-use Rattle.reading.specs.declared.framing.Opened.the-variants.{Track, Fails}
-use Rattle.reading.specs.declared.framing.Lines.{Lines}
-use Rattle.reading.specs.declared.framing.Lines.the-variants.{Goes, Stops}
+use Rattle.parsing.specs.Found.{marks-of}
+use Rattle.parsing.specs.Phases.{labelled, due-of, with-pairs, ahead, Counted, Begun}
+use Rattle.parsing.specs.Phases.{NodesRead, NodesTold, PairsRead, PairsTold, EndTold, LastTold}
+use Rattle.parsing.specs.declared.Opened.{Opened}
+use Rattle.parsing.specs.declared.Opened.the-variants.{Track, Fails}
+use Rattle.parsing.specs.declared.Lines.{Lines}
+use Rattle.parsing.specs.declared.Lines.the-variants.{Goes, Stops}
+use Rattle.reading.specs.Outcome.{Held, answer, failed, stopped}
 use Rattle.reading.specs.declared.Read.{Read}
 use Rattle.reading.specs.declared.Read.the-variants.{Accepted, Refused}
 

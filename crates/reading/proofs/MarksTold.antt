@@ -42,9 +42,9 @@ use Rattle.walks.specs.Columns.{at}
 use Rattle.walks.specs.Walked.{laid}
 use Rattle.walks.proofs.SideLaws.{number-held}
 use Rattle.walks.proofs.Telling.{mark-told, Telling}
-use Rattle.reading.specs.Found.{find, mark-of, marks-of}
-use Rattle.reading.specs.Rules.{is-event, event-at, one-event}
-use Rattle.reading.proofs.FoundLaws.{mark-of-literal, marks-length, listed, find-literal, DefinitionsBelow}
+use Rattle.parsing.specs.Found.{find, mark-of, marks-of}
+use Rattle.parsing.proofs.FoundLaws.{mark-of-literal, marks-length, listed, find-literal, DefinitionsBelow}
+use Rattle.shapes.specs.Rules.{is-event, event-at, one-event}
 
 -- the event that a mark tells, none where it is no event's
 unfoldable event-told : List ℕ → ℕ → Option ℕ

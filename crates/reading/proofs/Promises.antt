@@ -20,12 +20,13 @@ use Rattle.walks.specs.declared.Counts.{Counts}
 use Rattle.walks.specs.Columns.{flat}
 use Rattle.walks.specs.Walked.{laid}
 use Rattle.numbering.proofs.Listed.{pairs-back, pairs-stay}
-use Rattle.reading.specs.Found.{marks-of}
-use Rattle.reading.specs.Rules.{shaped, judged, outcome, labels-left, track-of, graph-left, Held, answer, handed}
+use Rattle.parsing.specs.Found.{marks-of}
+use Rattle.parsing.proofs.FoundLaws.{marks-length}
+use Rattle.shapes.specs.Rules.{shaped}
+use Rattle.reading.specs.Outcome.{judged, outcome, labels-left, track-of, graph-left, Held, answer, handed}
 use Rattle.reading.specs.Kept.{Reads}
 use Rattle.reading.specs.declared.Read.{Read}
 use Rattle.reading.specs.declared.Read.the-variants.{Accepted, Refused}
-use Rattle.reading.proofs.FoundLaws.{marks-length}
 use Rattle.reading.proofs.RuleLaws.{outcome-told}
 
 -- how many nodes, arcs and meetings a graph has

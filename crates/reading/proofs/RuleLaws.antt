@@ -28,10 +28,11 @@ use Rattle.walks.specs.Linked.{side-words, all-fit}
 use Rattle.walks.specs.Walked.{laid}
 use Rattle.walks.proofs.Telling.{Telling}
 use Rattle.walks.proofs.LinkTold.{all-fit-told, walked-told}
-use Rattle.reading.specs.Found.{marks-of}
-use Rattle.reading.specs.Rules.{as-walked, joins-events, shaped, outcome}
-use Rattle.reading.specs.Rules as Rules
-use Rattle.reading.proofs.FoundLaws.{DefinitionsBelow, marks-shaped}
+use Rattle.parsing.specs.Found.{marks-of}
+use Rattle.parsing.proofs.FoundLaws.{DefinitionsBelow, marks-shaped}
+use Rattle.shapes.specs.Rules.{as-walked, joins-events, shaped}
+use Rattle.reading.specs.Outcome.{outcome}
+use Rattle.reading.specs.Outcome as Outcome
 use Rattle.reading.proofs.MarksTold.{marks-telling, events-told}
 
 -- what is behind a test may be taken where it holds
@@ -128,8 +129,8 @@ module _ (text : List ℕ) (s : Sofar) (q : judged text ≡ accepted s) where
 
   -- what is judged by marks of what a text says is what the document judges of it
   judged-told : (t : List ℕ) (p : Parsed) → parsed (length ts) t ≡ p
-      → Rules.judged (kinds s) (payloads s) (afters s) (roots s) p ≡ Shape.judged ts p
-  unfolding Rules.judged Shape.judged
+      → Outcome.judged (kinds s) (payloads s) (afters s) (roots s) p ≡ Shape.judged ts p
+  unfolding Outcome.judged Shape.judged
   judged-told t (says g) e =
       let table = checked-trees text s q in
       let fits = says-text (length ts) (omega arith) t e .1 in

@@ -8,7 +8,7 @@ use Rattle.tables.specs.Table as Table
 use Rattle.tables.specs.Columns.{kinds, payloads, afters, roots}
 use Rattle.terms.specs.Term.{definitions-of}
 use Rattle.tracks.specs.Shape.{read}
-use Rattle.reading.specs.Rules.{answer, labels-left, graph-left}
+use Rattle.reading.specs.Outcome.{answer, labels-left, graph-left}
 use Rattle.reading.specs.declared.Read.{Read}
 
 -- columns that the check of a table's text has left, with its number of definitions

@@ -1,24 +1,18 @@
-// Saved tracks read: a text is judged line by line, its nodes' places become marks, and the reader's rules are tested on the
-// marks. It relies on the line finder, on the columns of the table check, and on the numbering walk.
-mod finding;
-mod framing;
-mod numbers;
-mod rules;
-
-use framing::Lines;
-use framing::Opened;
-use framing::first_line;
-use framing::last_lines;
-use framing::read_nodes;
-use framing::read_pairs;
-use rules::has_shape;
+// Saved tracks read: a text's lines are read into columns, the reader's rules are tested on them, and an accepted graph is
+// handed over. It relies on the parts of the line reading and on the test of a graph's shape.
+use parsing::Lines;
+use parsing::Opened;
+use parsing::first_line;
+use parsing::last_lines;
+use parsing::read_nodes;
+use parsing::read_pairs;
+use shapes::has_shape;
 use walks::Counts;
 ghost use mathlib.Core.Path.{_≡_};
 ghost use lib.ListN.{replicate};
 ghost use Rattle.tracks.specs.Parsed.{parsed};
-ghost use Rattle.reading.specs.Rules as of;
+ghost use Rattle.reading.specs.Outcome as of;
 ghost use Rattle.reading.specs.Kept.{Reads};
-ghost use Rattle.reading.specs.Phases.{failed, stopped};
 
 // First bytes of frames.
 const ARC: u8 = 50;
@@ -224,7 +218,7 @@ fn read_lines(
 
 // The refusal of line 1.
 fn refused_first(opened: Opened) -> Read
-    ensures { λ r. ⌜ r ≡ failed opened ⌝ }
+    ensures { λ r. ⌜ r ≡ of.failed opened ⌝ }
 {
     match opened {
         Opened::Track {
@@ -239,7 +233,7 @@ fn refused_first(opened: Opened) -> Read
 
 // The refusal of a later line.
 fn refused(lines: Lines) -> Read
-    ensures { λ r. ⌜ r ≡ stopped lines ⌝ }
+    ensures { λ r. ⌜ r ≡ of.stopped lines ⌝ }
 {
     match lines {
         Lines::Goes(_) => Read::Refused { number: 0, line: 0 },

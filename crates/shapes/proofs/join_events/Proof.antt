@@ -1,0 +1,117 @@
+-- `shapes::join_events` meets its contract. The loop's invariant: all meetings so far are good ones, so that the rest
+-- tells of all. The measure is how many meetings are left. Assumes nothing.
+use Prim.Native.Nat.{_-_}
+use mathlib.Core.Path.{_∙_}
+use borrow.Author.Needs.{needs}
+use native.Mathlib.Omega.{arith}
+use Rattle.stepping.specs.Views.{pairs}
+use Rattle.shapes.proofs.RuleTests.{
+  told-broken,
+  told-met,
+  pairs-listed,
+  Passed,
+  none-tested,
+  test-passed,
+  test-failed,
+  all-passed,
+  every-both,
+  meets-well,
+  meeting-down,
+  meeting-up,
+}
+use Rattle.shapes.proofs.join_events.Statement.{statement}
+use Rattle.shapes.proofs.join_events.Tie as tie
+
+abbrev Inv-loop : tie.InvT-loop
+Inv-loop meetings labels graph payloads i₀ i = Passed (meets-well payloads labels) (pairs 16384 graph) meetings i
+
+abbrev μ-loop : tie.MeasureT-loop
+μ-loop meetings labels graph payloads i₀ i = meetings - i
+
+loop-holds : tie.Need-loop-holds Inv-loop μ-loop
+loop-holds c = none-tested _ (pairs 16384 _) _
+
+mul-at : tie.Need-mul-at Inv-loop μ-loop
+mul-at c = omega arith
+
+add-at : tie.Need-add-at Inv-loop μ-loop
+add-at c = omega arith
+
+track-word-requires : tie.Need-track-word-requires Inv-loop μ-loop
+track-word-requires c κs = search needs
+
+add-track-word : tie.Need-add-track-word Inv-loop μ-loop
+add-track-word c = omega arith
+
+track-word-requires-2 : tie.Need-track-word-requires-2 Inv-loop μ-loop
+track-word-requires-2 c κs = search needs
+
+returns : tie.Need-returns Inv-loop μ-loop
+returns c =
+    let tested = c .before .before .before in
+    test-failed _ (pairs-listed 16384 _) _ _ (tested .before .loop .inv) (tested .loop-test .taken)
+    (meeting-down _ _ (c .before .before .track-word .ensures) (c .before .track-word2 .ensures) (c .if1 .taken))
+    ∙ every-both _ _ _
+
+reference-word-requires : tie.Need-reference-word-requires Inv-loop μ-loop
+reference-word-requires c κs = search needs
+
+reference-word-requires-2 : tie.Need-reference-word-requires-2 Inv-loop μ-loop
+reference-word-requires-2 c κs = search needs
+
+of-one-event-requires : tie.Need-of-one-event-requires Inv-loop μ-loop
+of-one-event-requires c κs = search needs
+
+returns-2 : tie.Need-returns-2 Inv-loop μ-loop
+returns-2 c =
+    let marks = c .before .before in
+    let up = marks .before .before in
+    let tested = up .before .before .before in
+    let joins = meeting-up _ _ (up .before .before .track-word .ensures) (up .before .track-word2 .ensures)
+    (up .if1 .left) (marks .before .reference-word .ensures) (marks .reference-word2 .ensures)
+    (c .before .of-one-event .ensures) in
+    test-failed _ (pairs-listed 16384 _) _ _ (tested .before .loop .inv) (tested .loop-test .taken)
+    (told-broken joins (c .if2 .taken))
+    ∙ every-both _ _ _
+
+add-i : tie.Need-add-i Inv-loop μ-loop
+add-i c = omega arith
+
+loop-less : tie.Need-loop-less Inv-loop μ-loop
+loop-less c = omega arith
+
+loop-again : tie.Need-loop-again Inv-loop μ-loop
+loop-again c =
+    let marks = c .before .before in
+    let up = marks .before .before in
+    let tested = up .before .before .before in
+    let joins = meeting-up _ _ (up .before .before .track-word .ensures) (up .before .track-word2 .ensures)
+    (up .if1 .left) (marks .before .reference-word .ensures) (marks .reference-word2 .ensures)
+    (c .before .of-one-event .ensures) in
+    test-passed _ (pairs-listed 16384 _) _ _ (tested .before .loop .inv) (tested .loop-test .taken)
+    (told-met joins (c .if2 .left))
+
+returns-3 : tie.Need-returns-3 Inv-loop μ-loop
+returns-3 c = all-passed _ (pairs-listed 16384 _) _ _ (c .before .loop .inv) (c .loop-test .left) ∙ every-both _ _ _
+
+pub join-events-spec : {M : Type 1} → statement M
+join-events-spec =
+    tie.close
+    (tie.spec
+    Inv-loop
+    μ-loop
+    loop-holds
+    mul-at
+    add-at
+    track-word-requires
+    add-track-word
+    track-word-requires-2
+    returns
+    reference-word-requires
+    reference-word-requires-2
+    of-one-event-requires
+    returns-2
+    add-i
+    loop-less
+    loop-again
+    returns-3)
