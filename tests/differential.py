@@ -53,7 +53,7 @@ class Subject(NamedTuple):
 
 SUBJECTS = {
     "judge": Subject(generate.FAMILIES, independent.listing, independent.outcome),
-    "play": Subject(runs.FAMILIES, rules.play_listing, rules.outcome),
+    "play": Subject(runs.FAMILIES, rules.play_listing, rules.play_outcome),
     "reread": Subject(tracks.FAMILIES, saved.reread_listing, saved.reread_outcome),
     "track": Subject(inputs.FAMILIES, rules.listing, rules.outcome),
 }

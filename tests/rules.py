@@ -2,7 +2,7 @@
 
 It is written from document 01 and the report's Fig. 7, and shares nothing with the crates. A step changes one
 track in place and takes back what it added where it is refused. `listing` gives what document 01's tracking
-program prints for an input, and `play_listing` what the program play prints:
+program prints for an input, and `play_listing` what the program play prints, which is the inside of the run:
 
     python3 tests/rules.py < input
     python3 tests/rules.py play < input
@@ -373,28 +373,33 @@ def script_step(run, line, line_number):
     return event._replace(line=line_number) if isinstance(event, Refusal) else event
 
 
-def run_listing(run, script_text):
-    lines, refusal = [], []
+def play_script(run, script_text):
+    """Steps the run by a script, up to the first line that is refused; gives the events, and the Refusal or None."""
+    events = []
     for line_number, line in enumerate(split_lines(script_text), 1):
         event = script_step(run, line, line_number)
         if isinstance(event, Refusal):
-            refusal = [refusal_line(event)]
-            break
-        lines.append(event_line(event))
-    return lines + ["41%02x" % status(run.control)] + refusal
+            return events, event
+        events.append(event)
+    return events, None
 
 
-def listing_with(tell_track, given):
-    """An input's steps, status and refusal, with the run's track told behind them; or a refusal alone."""
+def run_listing(run, script_text):
+    """Steps the run by a script, and tells each step, the status, and the refusal where there is one."""
+    events, refusal = play_script(run, script_text)
+    lines = [event_line(event) for event in events] + ["41%02x" % status(run.control)]
+    return lines + ([refusal_line(refusal)] if refusal else [])
+
+
+def run_and_script(given):
+    """An input's run at its start, and its script; or the Refusal of the table or of the script as a whole."""
     table_text, script_text = cut_input(given)
     table = judge_table(table_text)
     if isinstance(table, Refusal):
-        return text_of([refusal_line(table)]).encode("ascii")
+        return table
     if len(script_text) > SCRIPT_ROOM:
-        return text_of([refusal_line(Refusal(6, 0))]).encode("ascii")
-    run = Run(table)
-    told = text_of(run_listing(run, script_text))
-    return (told + tell_track(run)).encode("ascii")
+        return Refusal(6, 0)
+    return Run(table), script_text
 
 
 def saved_in_its_room(run):
@@ -404,7 +409,12 @@ def saved_in_its_room(run):
 
 def listing(given):
     """What the tracking program prints for an input."""
-    return listing_with(saved_in_its_room, given)
+    begun = run_and_script(given)
+    if isinstance(begun, Refusal):
+        return text_of([refusal_line(begun)]).encode("ascii")
+    run, script_text = begun
+    told = text_of(run_listing(run, script_text))
+    return (told + saved_in_its_room(run)).encode("ascii")
 
 
 def offers_line(control):
@@ -419,22 +429,27 @@ def counters_line(run):
     return "43" + "%04x" * 6 % (run.reference, track.fresh, cells(run.control), *made)
 
 
-def track_by_references(run):
-    """What is offered, the counters, the track by its references, in the order made, and its saved text."""
+def inside_of(run):
+    """What is offered, the counters, and the track by its references, arcs and meetings in the order made."""
     lines = [offers_line(run.control), counters_line(run)]
     lines += ["51" + node_bytes(*label) for label in sorted(run.track.labels)]
     lines += ["52%04x%04x" % arc for arc in run.track.arcs]
     lines += ["53%04x%04x" % meeting for meeting in run.track.meetings]
-    return text_of(lines) + saved_in_its_room(run)
+    return text_of(lines)
 
 
 def play_listing(given):
-    """What the program play prints for an input."""
-    return listing_with(track_by_references, given)
+    """What the program play prints for an input: nothing where the table or the script as a whole is refused."""
+    begun = run_and_script(given)
+    if isinstance(begun, Refusal):
+        return b""
+    run, script_text = begun
+    play_script(run, script_text)
+    return inside_of(run).encode("ascii")
 
 
 def outcome(told):
-    """In a word or two what a listing comes to: its status, or the number of the refusal behind that.
+    """In a word or two what a tracking listing comes to: its status, or the number of the refusal behind that.
 
     `text R` is a refusal that stands alone, of a table or of a script over its room.
     """
@@ -445,6 +460,14 @@ def outcome(told):
     if lines[behind + 1].startswith("4e"):
         return f"refused {int(lines[behind + 1][2:4], 16)}"
     return {LIVE: "live", ENDED: "ended", STUCK: "stuck"}[int(lines[behind][2:], 16)]
+
+
+def play_outcome(told):
+    """In a word what play's listing comes to: `unplayed` where it is empty, or whether the run offers anything."""
+    if not told:
+        return "unplayed"
+    offered = told.split(b"\n", 1)[0].removeprefix(b"42")
+    return "offering" if offered.strip(b"0") else "resting"
 
 
 if __name__ == "__main__":

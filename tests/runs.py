@@ -865,7 +865,7 @@ FAMILIES = Families("run ", SHARES)
 
 
 def outcome(given):
-    return rules.outcome(rules.play_listing(given))
+    return rules.outcome(rules.listing(given))
 
 
 if __name__ == "__main__":

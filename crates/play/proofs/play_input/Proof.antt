@@ -19,11 +19,11 @@ check-requires c κs = search needs
 enum-known-checked : tie.Need-enum-known-checked
 enum-known-checked c = search needs
 
-tell-refusal-requires : tie.Need-tell-refusal-requires
-tell-refusal-requires c κs = search needs
+enum-told : tie.Need-enum-told
+enum-told c = search needs
 
-enum-known-checked-2 : tie.Need-enum-known-checked-2
-enum-known-checked-2 c = search needs
+returns : tie.Need-returns
+returns c = search needs
 
 sub-play-script : tie.Need-sub-play-script
 sub-play-script c =
@@ -39,9 +39,6 @@ part-play-script-end c = search needs
 play-script-requires : tie.Need-play-script-requires
 play-script-requires c κs = search needs
 
-returns : tie.Need-returns
-returns c = search needs
-
 returns-2 : tie.Need-returns-2
 returns-2 c = search needs
 
@@ -53,11 +50,10 @@ play-input-spec =
     slice-aggregate-check
     check-requires
     enum-known-checked
-    tell-refusal-requires
-    enum-known-checked-2
+    enum-told
+    returns
     sub-play-script
     part-play-script-start
     part-play-script-end
     play-script-requires
-    returns
     returns-2)
