@@ -1,99 +1,57 @@
 -- A saved track read and written again, by the promises of reading, saving and writing alone. The columns that
 -- reading leaves tell the graph that the text says: its marks tell the places of its nodes, which stand in number
 -- order, and its pairs are read back from their words. So what is written of them is the text. Assumes nothing.
-use Prim.Native.Nat.{ℕ, zero, suc, _+_, _-_, _/_, _%_, min, _≤_, _<_}
+use Prim.Native.Nat.{ℕ, zero, suc, _+_, min, _≤_, _<_}
 use mathlib.Core.Path.{_≡_, refl, sym, ap, ap₂, _∙_}
 use mathlib.Core.Bool.{Bool, true, false, not}
-use mathlib.Core.List.{List, [], _∷_}
+use mathlib.Core.List.{List}
 use mathlib.Core.Option.{some}
 use native.Mathlib.Omega.{arith}
-use lib.ListN.{length, set, replicate, length-replicate}
-use lib.Seq.{sets, length-sets, set-comm}
-use lib.Dec.{leb, ltb, eqb}
-use borrow.Author.Tests.{eqb-true, eqb-false, ltb-true, lt-ltb, le-leb, lt-leb}
-use Rattle.lines.specs.Line.{choose}
+use lib.ListN.{length, replicate, length-replicate}
+use lib.Seq.{sets}
+use lib.Dec.{ltb, eqb}
+use borrow.Author.Tests.{eqb-false, lt-ltb}
 use Rattle.lines.proofs.Digits.{both}
-use Rattle.frames.specs.TableFrame.{path-room}
 use Rattle.tables.specs.Table.{Sofar, accepted, judged}
 use Rattle.tables.specs.Columns.{kinds, owners, afters, roots}
 use Rattle.terms.specs.Term.{Term, definitions-of}
-use Rattle.places.specs.Place.{left-path}
-use Rattle.places.specs.Code.{Columns, columns, literal-path, literal-definition}
-use Rattle.places.specs.declared.Literal.the-variants.{Left, Own, Event}
+use Rattle.places.specs.Code.{Columns, columns}
 use Rattle.report.specs.Track.{Label, lookup}
 use Rattle.report.specs.Run.{State, arc-room, meeting-room}
-use Rattle.plans.specs.Laid.{layout, place-of, found}
 use Rattle.control.specs.Words.{reference-room, track-words}
-use Rattle.stepping.specs.Views.{pairs, place-told}
+use Rattle.stepping.specs.Views.{pairs}
 use Rattle.tracks.specs.Graph.{Graph, graph-of, labelled}
 use Rattle.tracks.specs.Walk.{order}
 use Rattle.tracks.specs.Saved.{placed, numbered, canonical, graph-text, saved}
-use Rattle.tracks.specs.Parsed.{Parsed, says, refused, parsed, in-range}
+use Rattle.tracks.specs.Parsed.{Parsed, says, refused, parsed}
 use Rattle.tracks.specs.Shape.{every, in-order, from-on, walked, shaped, ascends, branches, read}
 use Rattle.tracks.specs.Shape as Shape
 use Rattle.tracks.proofs.References.{same-true}
-use Rattle.tracks.proofs.Spelled.{Each, each-none, each-first, LabelFits, Fits, says-text}
-use Rattle.tracks.proofs.Kept.{saved-reads-back, read-writes-again, numbers-labelled}
-use Rattle.walks.specs.Columns.{at, flat}
+use Rattle.tracks.proofs.Spelled.{Fits, says-text}
+use Rattle.tracks.proofs.Kept.{read-parts, saved-reads-back, read-writes-again, numbers-labelled}
+use Rattle.walks.specs.Columns.{at, flat, counts-of}
 use Rattle.walks.specs.Walked.{laid}
 use Rattle.walks.specs.declared.Counts.{Counts}
 use Rattle.walks.proofs.Telling.{Telling, mark-told, labelled-told}
-use Rattle.numbering.proofs.Listed.{pairs-back, flat-length}
-use Rattle.writing.specs.Told.{literal, place-by, labels-told, graph-told}
+use Rattle.numbering.proofs.Listed.{arcs-back, meetings-back}
+use Rattle.writing.specs.Told.{place-by, labels-told, graph-told}
 use Rattle.writing.specs.declared.Saved.{Saved}
 use Rattle.saving.specs.Kept as Saving
+use Rattle.saving.proofs.NumberedTold.{mark-place}
 use Rattle.parsing.specs.Found.{marks-of}
-use Rattle.parsing.proofs.FoundLaws.{DefinitionsBelow}
 use Rattle.reading.specs.Outcome.{answer, labels-left, graph-left}
 use Rattle.reading.specs.Kept.{Table-of, Reads}
 use Rattle.reading.specs.declared.Read.{Read}
 use Rattle.reading.specs.declared.Read.the-variants.{Accepted, Refused}
 use Rattle.reading.proofs.MarksTold.{marks-telling}
-use Rattle.demands.specs.Words.{Words, HoldsRun, SavesWords, Writes, told-by, counts-of}
+use Rattle.reading.proofs.RuleLaws.{labels-below}
+use Rattle.demands.specs.Words.{Words, HoldsRun, SavesWords, Writes, told-by}
 use Rattle.demands.specs.Bytes.{bytes-of}
 use Rattle.demands.proofs.SavedBytes.{written-bytes, checked-shallow, checked-count, save-leaves}
 
--- a word in front of words that are put, put behind them
-set-past : (l : List ℕ) (i v j : ℕ) (us : List ℕ) → i < j → sets (set l i v) j us ≡ set (sets l j us) i v
-set-past l i v j [] h = refl
-set-past l i v j (u ∷ us) h =
-    ap (λ (m : List ℕ). sets m (suc j) us) (set-comm l i j v u (λ e. omega arith))
-    ∙ set-past (set l j u) i v (suc j) us (omega arith)
-
--- and words in front of them
-sets-past : (l : List ℕ) (i : ℕ) (vs : List ℕ) (j : ℕ) (us : List ℕ) → i + length vs ≤ j
-    → sets (sets l i vs) j us ≡ sets (sets l j us) i vs
-sets-past l i [] j us h = refl
-sets-past l i (v ∷ vs) j us h =
-    sets-past (set l i v) (suc i) vs j us (omega arith)
-    ∙ ap (λ (m : List ℕ). sets m (suc i) vs) (set-past l i v j us (omega arith))
-
--- the places of a table's columns, by a mark of its layout
-module _ (t : Sofar) where
-  abbrev places : Columns
-  places = columns (kinds t) (owners t) (afters t) (roots t)
-
-  -- a mark tells the place of its literal
-  place-of-mark : (m : ℕ) → eqb m 0 ≡ false → place-by places m ≡ place-told (layout t) m
-  unfolding place-told literal layout place-of found literal-definition literal-path
-  place-of-mark m there = go (leb m 1) (eqb m 1) (eqb (m % 2) 0) (alone (eqb m 1) refl)
-    where
-      alone : (b : Bool) → eqb m 1 ≡ b → leb m 1 ≡ b
-      alone true e = le-leb m 1 (omega (arith, eqb-true m 1 e))
-      alone false e = lt-leb m 1 (many (eqb-false m 0 there) (eqb-false m 1 e))
-        where
-          many : (m ≡ 0 → ⊥) → (m ≡ 1 → ⊥) → 1 < m
-          many some-mark other = omega arith
-
-      go : (a b c : Bool) → a ≡ b
-          → place-of places (choose a (Left 0) (choose c (Own ((m - 2) / 2)) (Event ((m - 3) / 2))))
-          ≡ choose b (record { definition = 0; path = left-path })
-          (choose c (place-of places (Own ((m - 2) / 2))) (place-of places (Event ((m - 3) / 2))))
-      go true true c e = refl
-      go false false true e = refl
-      go false false false e = refl
-      go true false c e = let z : _≡_ {A = ℕ} 0 1 = cc in absurd (omega arith)
-      go false true c e = let z : _≡_ {A = ℕ} 0 1 = cc in absurd (omega arith)
+-- the places of a table's columns
+abbrev places : Sofar → Columns
+places t = columns (kinds t) (owners t) (afters t) (roots t)
 
 -- labels by marks, where each number has the place of its mark
 labels-again : (c : Columns) (ls : List Label) (ms : List ℕ) (k n : ℕ)
@@ -103,26 +61,6 @@ unfolding labels-told numbered placed from-on
 labels-again c ls ms k zero h = refl
 labels-again c ls ms k (suc n) h =
     rw (h k (omega arith), labels-again c ls ms (suc k) n (λ i below. h i (omega arith)))
-
--- labels that fit a table of d definitions are of these
-labels-below : {d : ℕ} {ls : List Label} → Each (LabelFits d) ls → DefinitionsBelow d ls
-unfolding in-range
-labels-below each-none = each-none
-labels-below {d} (each-first {x = l} h hs) =
-    let (short, is) = both (leb (length (l .place .path)) path-room) _ (h .place-fits) in
-    each-first (ltb-true (l .place .definition) d is) (labels-below hs)
-
--- a text that is read says its graph, which has the reader's shape
-read-shape : (ts : List Term) (r : Parsed) (g : Graph) → Shape.judged ts r ≡ says g
-    → (r ≡ says g) × (shaped ts g ≡ true)
-unfolding Shape.judged
-read-shape ts (refused n k) g e = let z : _≡_ {A = ℕ} 0 1 = cc in absurd (omega arith)
-read-shape ts (says h) g e = go (shaped ts h) refl e
-  where
-    go : (b : Bool) → shaped ts h ≡ b → choose b (says h) (refused 13 0) ≡ says g
-        → (says h ≡ says g) × (shaped ts g ≡ true)
-    go true s e = let is : h ≡ g = cc in (e, sym (ap (shaped ts) is) ∙ s)
-    go false s e = let z : _≡_ {A = ℕ} 0 1 = cc in absurd (omega arith)
 
 -- a text that is read against a checked table
 module _ (text : List ℕ) (t : Sofar) (q : judged text ≡ accepted t) (lines : List ℕ) (g : Graph)
@@ -141,12 +79,12 @@ module _ (text : List ℕ) (t : Sofar) (q : judged text ≡ accepted t) (lines :
   words = sets (sets zeros 0 (flat (g .arcs))) 16384 (flat (g .meetings))
 
   shape : shaped ts g ≡ true
-  shape = read-shape ts (parsed (length ts) lines) g is .1
+  shape = read-parts ts (parsed (length ts) lines) g is .1
 
   fits : Fits (length ts) g
   fits =
       says-text (length ts) (checked-count text t q .1) lines
-      (read-shape ts (parsed (length ts) lines) g is .0) .1
+      (read-parts ts (parsed (length ts) lines) g is .0) .1
 
   -- it is its own canonical graph
   canonical-is : canonical g ≡ g
@@ -170,7 +108,7 @@ module _ (text : List ℕ) (t : Sofar) (q : judged text ≡ accepted t) (lines :
       go : (b : Bool) → eqb (at marks i) 0 ≡ b → not b ≡ true
           → lookup i (g .labels) ≡ some (place-by (places t) (at marks i))
       go true e h = let z : _≡_ {A = ℕ} 0 1 = cc in absurd (omega arith)
-      go false e h = telling .told i ∙ rw e (ap some (sym (place-of-mark t (at marks i) e)))
+      go false e h = telling .told i ∙ rw e (ap some (mark-place t (at marks i) (eqb-false (at marks i) 0 e)))
 
   -- the walk numbers its nodes as they are
   order-is : order g ≡ from-on 0 (length (g .labels))
@@ -192,23 +130,17 @@ module _ (text : List ℕ) (t : Sofar) (q : judged text ≡ accepted t) (lines :
       ∙ ap (numbered (g .labels) 0) (sym order-is) ∙ ap (λ (h : Graph). h .labels) canonical-is
 
   -- the pairs are read back
+  long : length zeros ≡ track-words
+  long = length-replicate {A = ℕ} track-words 0
+
   arcs-are : pairs 0 words 0 (min (length (g .arcs)) arc-room) ≡ g .arcs
   arcs-are =
-      let all : min (length (g .arcs)) arc-room ≡ length (g .arcs) = omega (arith, fits .arcs-room) in
-      let behind = sets zeros 16384 (flat (g .meetings)) in
-      ap₂ (λ (w : List ℕ) (n : ℕ). pairs 0 w 0 n)
-      (sets-past zeros 0 (flat (g .arcs)) 16384 (flat (g .meetings))
-      (omega (arith, flat-length (g .arcs), fits .arcs-room))) all
-      ∙ pairs-back 0 behind (g .arcs) (length-sets zeros 16384 (flat (g .meetings)) ∙ length-replicate {A = ℕ} track-words 0)
+      arcs-back zeros long (g .arcs) (g .meetings) (fits .arcs-room) (fits .meetings-room) _
       (omega (arith, fits .arcs-room))
 
   meetings-are : pairs 16384 words 0 (min (length (g .meetings)) meeting-room) ≡ g .meetings
   meetings-are =
-      let all : min (length (g .meetings)) meeting-room ≡ length (g .meetings) =
-      omega (arith, fits .meetings-room) in
-      let front = sets zeros 0 (flat (g .arcs)) in
-      ap (pairs 16384 words 0) all
-      ∙ pairs-back 16384 front (g .meetings) (length-sets zeros 0 (flat (g .arcs)) ∙ length-replicate {A = ℕ} track-words 0)
+      meetings-back zeros long (g .arcs) (g .meetings) (fits .arcs-room) (fits .meetings-room) _
       (omega (arith, fits .meetings-room))
 
   -- so the columns tell it

@@ -50,7 +50,3 @@ Writes g slice r slice′ = (r ≡ answer (graph-text g) (length slice)) × (sli
 -- the graph that columns tell, with the places of a table's columns
 abbrev pub told-by : List ℕ → List ℕ → List ℕ → List ℕ → List ℕ → List ℕ → Counts → Graph
 told-by ks os xs rs labels graph n = graph-told (columns ks os xs rs) labels graph n
-
--- how many nodes, arcs and meetings a graph has
-abbrev pub counts-of : Graph → Counts
-counts-of g = record { nodes = length (g .labels); arcs = length (g .arcs); meetings = length (g .meetings) }

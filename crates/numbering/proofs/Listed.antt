@@ -9,6 +9,7 @@ use lib.ListN.{length, getD, set, take, drop, List·getD-append}
 use lib.Seq.{sets, sets-eq, length-sets, length-take-le, getD-append-add, getD-set-other}
 use borrow.Author.Tests.{lt-ltb}
 use Rattle.report.specs.Track.{Pair, pair}
+use Rattle.report.specs.Run.{arc-room, meeting-room}
 use Rattle.control.specs.Words.{track-words, track-word}
 use Rattle.stepping.specs.Views.{pairs}
 use Rattle.walks.specs.Columns.{flat}
@@ -101,7 +102,7 @@ front-stays w b (v ∷ vs) i h =
     front-stays (set w b v) (suc b) vs i (omega arith) ∙ getD-set-other w b i v 0 (λ e. omega arith)
 
 -- and the pairs that are read from them
-pub pairs-stay : (base : ℕ) (w : List ℕ) (b : ℕ) (vs : List ℕ) (i c : ℕ) → base + 2 * (i + c) ≤ b
+pairs-stay : (base : ℕ) (w : List ℕ) (b : ℕ) (vs : List ℕ) (i c : ℕ) → base + 2 * (i + c) ≤ b
     → pairs base (sets w b vs) i c ≡ pairs base w i c
 unfolding pairs track-word
 pairs-stay base w b vs i zero h = refl
@@ -111,3 +112,20 @@ pairs-stay base w b vs i (suc c) h =
       front-stays w b vs (base + 2 * i + 1) (omega arith),
       pairs-stay base w b vs (suc i) c (omega arith),
     )
+
+-- the arcs and the meetings of a track are read back from its words, where they have room
+module _ (w : List ℕ) (long : length w ≡ track-words) (as′ ms : List Pair) (few : length as′ ≤ arc-room)
+    (few-met : length ms ≤ meeting-room) (n : ℕ) where
+  abbrev both-put : List ℕ
+  both-put = sets (sets w 0 (flat as′)) 16384 (flat ms)
+
+  pub arcs-back : n ≡ length as′ → pairs 0 both-put 0 n ≡ as′
+  arcs-back all =
+      ap (pairs 0 both-put 0) all
+      ∙ pairs-stay 0 (sets w 0 (flat as′)) 16384 (flat ms) 0 (length as′) (omega arith)
+      ∙ pairs-back 0 w as′ long (omega arith)
+
+  pub meetings-back : n ≡ length ms → pairs 16384 both-put 0 n ≡ ms
+  meetings-back all =
+      ap (pairs 16384 both-put 0) all
+      ∙ pairs-back 16384 (sets w 0 (flat as′)) ms (length-sets w 0 (flat as′) ∙ long) (omega arith)

@@ -180,6 +180,7 @@ prefix-subterms = refl
 
 -- columns that hold a term
 module _ (ks ps xs : List ℕ) where
+  -- hold its sides
   side-held : {T t : Term} {x k : ℕ} (i : ℕ) → Side T x k t → Holds ks ps xs i T → Holds ks ps xs (i + k) t
   side-held i (only e t) h = rw add-one (h .3)
   side-held i (first o t u) h = rw add-one (h .3)
@@ -187,8 +188,8 @@ module _ (ks ps xs : List ℕ) where
       let m : getD xs (suc i) 0 ≡ i + (1 + size t) = omega (arith, holds-behind ks ps xs (suc i) t (h .3)) in
       rw m at (h .4)
 
-  -- number n's part of them holds number n
-  holds-at : (t : Term) (n : ℕ) → n < size t
+  -- and its number n from there on
+  pub holds-at : (t : Term) (n : ℕ) → n < size t
       → (i : ℕ) → Holds ks ps xs i t → Holds ks ps xs (i + n) (term-at t n)
   holds-at =
       by-number (λ t n. (i : ℕ) → Holds ks ps xs i t → Holds ks ps xs (i + n) (term-at t n))

@@ -25,7 +25,7 @@ use Rattle.places.specs.Place.{Place, left-path, term-at, IsPrefix, Literal, ow
 use Rattle.places.specs.Code.{look}
 use Rattle.places.proofs.Ways.{look-in, look-out}
 use Rattle.places.proofs.Sides.{prefix-inside}
-use Rattle.places.proofs.Laws.{own-only, event-only, left-apart}
+use Rattle.places.proofs.Laws.{own-only, event-only, left-apart, holds-at}
 use Rattle.report.specs.Track.{Label, lookup}
 use Rattle.plans.specs.Plan.{Layout}
 use Rattle.plans.specs.Laid.{layout}
@@ -40,7 +40,6 @@ use Rattle.tracks.proofs.Spelled.{each-none, each-first}
 use Rattle.tracks.proofs.References.{same-true}
 use Rattle.walks.specs.Columns.{at}
 use Rattle.walks.specs.Walked.{laid}
-use Rattle.walks.proofs.SideLaws.{number-held}
 use Rattle.walks.proofs.Telling.{mark-told, Telling}
 use Rattle.parsing.specs.Found.{find, mark-of, marks-of}
 use Rattle.parsing.proofs.FoundLaws.{mark-of-literal, marks-length, listed, find-literal, DefinitionsBelow}
@@ -201,7 +200,7 @@ module _ (text : List ℕ) (s : Sofar) (q : judged text ≡ accepted s) where
       let at-root = look-in definition-room (roots s) (w .definition) (omega arith) in
       let inside : i < term-room = omega (arith, prefix-inside T n h) in
       let held = rw at-root at (stands .holds) in
-      let held-there = number-held (kinds s) (payloads s) (afters s) T n (prefix-inside T n h) _ held in
+      let held-there = holds-at (kinds s) (payloads s) (afters s) T n (prefix-inside T n h) _ held in
       rw (a, b, e, x)
       (payload-event (kinds s) (payloads s) (afters s) ts (term-at T n) i held-there h
       ∙ ap some (look-in term-room (payloads s) i inside) ∙ sym (event-event (payloads s) i))

@@ -6,8 +6,7 @@ use mathlib.Core.Path.{_≡_, refl, sym, ap, _∙_, subst}
 use mathlib.Core.Bool.{Bool, true, false, not}
 use mathlib.Core.List.{List}
 use native.Mathlib.Omega.{arith}
-use lib.ListN.{length, replicate, length-replicate}
-use lib.Seq.{sets, length-sets}
+use lib.ListN.{length, length-replicate}
 use Rattle.lines.specs.Line.{choose}
 use Rattle.report.specs.Run.{node-room, arc-room, meeting-room}
 use Rattle.control.specs.Words.{track-words}
@@ -17,34 +16,17 @@ use Rattle.tracks.specs.Graph.{Graph}
 use Rattle.tracks.specs.Parsed.{Parsed, says, refused}
 use Rattle.tracks.specs.Shape as Shape
 use Rattle.walks.specs.declared.Counts.{Counts}
-use Rattle.walks.specs.Columns.{flat}
+use Rattle.walks.specs.Columns.{counts-of}
 use Rattle.walks.specs.Walked.{laid}
-use Rattle.numbering.proofs.Listed.{pairs-back, pairs-stay}
+use Rattle.numbering.proofs.Listed.{arcs-back, meetings-back}
 use Rattle.parsing.specs.Found.{marks-of}
 use Rattle.parsing.proofs.FoundLaws.{marks-length}
 use Rattle.shapes.specs.Rules.{shaped}
-use Rattle.reading.specs.Outcome.{judged, outcome, labels-left, track-of, graph-left, Held, answer, handed}
+use Rattle.reading.specs.Outcome.{judged, outcome, labels-left, graph-left, Held, answer, handed}
 use Rattle.reading.specs.Kept.{Reads}
 use Rattle.reading.specs.declared.Read.{Read}
 use Rattle.reading.specs.declared.Read.the-variants.{Accepted, Refused}
 use Rattle.reading.proofs.RuleLaws.{outcome-told}
-
--- how many nodes, arcs and meetings a graph has
-abbrev counts-of : Graph → Counts
-counts-of g = record { nodes = length (g .labels); arcs = length (g .arcs); meetings = length (g .meetings) }
-
--- a graph's pairs are read back from its words, where they have room
-arcs-back : (g : Graph) → length (g .arcs) ≤ arc-room → pairs 0 (track-of g) 0 (length (g .arcs)) ≡ g .arcs
-arcs-back g few =
-    pairs-stay 0 (sets (replicate track-words 0) 0 (flat (g .arcs))) 16384 (flat (g .meetings)) 0 (length (g .arcs))
-    (omega arith)
-    ∙ pairs-back 0 (replicate track-words 0) (g .arcs) (length-replicate {A = ℕ} track-words 0) (omega arith)
-
-meetings-back : (g : Graph) → length (g .meetings) ≤ meeting-room
-    → pairs 16384 (track-of g) 0 (length (g .meetings)) ≡ g .meetings
-meetings-back g few =
-    pairs-back 16384 (sets (replicate track-words 0) 0 (flat (g .arcs))) (g .meetings)
-    (length-sets (replicate track-words 0) 0 (flat (g .arcs)) ∙ length-replicate {A = ℕ} track-words 0) (omega arith)
 
 -- the counts of lines that are accepted keep to the rooms
 pub counts-fit : (ks xs rs : List ℕ) (p : Parsed) (ls gs : List ℕ) {r : Read} → r ≡ answer p → Held ks xs rs p ls gs
@@ -90,10 +72,13 @@ module _ (ks ps xs rs : List ℕ) where
   unfolding judged Held answer
   rules-decide (says g) ls gs {r} e h {c} q {b} t {v} is =
       let counted : counts-of g ≡ c = cc in
+      let long = length-replicate {A = ℕ} track-words 0 in
       let tested = subst (λ (c : Counts). Tests ls gs c b) (sym counted) t in
       let shape = tested (marks-of ks xs rs 0 (g .labels)) g (h .0) (marks-length ks xs rs 0 (g .labels)) refl
-      (ap (λ (w : List ℕ). pairs 0 w 0 (length (g .arcs))) (h .1) ∙ arcs-back g (h .2 .1))
-      (ap (λ (w : List ℕ). pairs 16384 w 0 (length (g .meetings))) (h .1) ∙ meetings-back g (h .2 .2)) in
+      (ap (λ (w : List ℕ). pairs 0 w 0 (length (g .arcs))) (h .1)
+      ∙ arcs-back _ long (g .arcs) (g .meetings) (h .2 .1) (h .2 .2) _ refl)
+      (ap (λ (w : List ℕ). pairs 16384 w 0 (length (g .meetings))) (h .1)
+      ∙ meetings-back _ long (g .arcs) (g .meetings) (h .2 .1) (h .2 .2) _ refl) in
       decided g ls gs (sym q ∙ e) h (shaped ks ps xs (marks-of ks xs rs 0 (g .labels)) g) (sym (ap not shape) ∙ is)
   rules-decide (refused n k) ls gs e h q t is = let z : _≡_ {A = ℕ} 0 1 = cc in absurd (omega arith)
 

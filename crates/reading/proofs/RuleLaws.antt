@@ -56,7 +56,7 @@ every-same f g h [] = refl
 every-same f g h (x ∷ xs) = ap₂ _&&_ (h x) (every-same f g h xs)
 
 -- labels that fit a table of d definitions are of these
-labels-below : {d : ℕ} {ls : List Label} → Each (LabelFits d) ls → DefinitionsBelow d ls
+pub labels-below : {d : ℕ} {ls : List Label} → Each (LabelFits d) ls → DefinitionsBelow d ls
 unfolding in-range
 labels-below each-none = each-none
 labels-below {d} (each-first {x = l} h hs) =

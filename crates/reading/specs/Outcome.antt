@@ -9,7 +9,7 @@ use Rattle.report.specs.Run.{node-room, arc-room, meeting-room}
 use Rattle.control.specs.Words.{track-words}
 use Rattle.tracks.specs.Graph.{Graph}
 use Rattle.tracks.specs.Parsed.{Parsed, says, refused, parsed}
-use Rattle.walks.specs.Columns.{flat}
+use Rattle.walks.specs.Columns.{flat, counts-of}
 use Rattle.walks.specs.Walked.{laid}
 use Rattle.parsing.specs.Found.{marks-of}
 use Rattle.parsing.specs.declared.Opened.{Opened}
@@ -52,8 +52,7 @@ module _ (ks xs rs : List ℕ) where
 
 -- the answer: how many nodes, arcs and meetings; or the paper's number of the refusal and its line
 unfoldable pub answer : Parsed → Read
-answer (says g) =
-    Accepted (record { nodes = length (g .labels); arcs = length (g .arcs); meetings = length (g .meetings) })
+answer (says g) = Accepted (counts-of g)
 answer (refused n k) = Refused n k
 
 -- the answer for line 1 that fails, and for a later line that stops the work

@@ -33,15 +33,17 @@ abbrev pub Up : ℕ → List Pair → Type 0
 Up f [] = Unit {0}
 Up f (a ∷ g) = (a .from < a .to) × (a .to < f) × Up f g
 
-up-more : (f f′ : ℕ) (g : List Pair) → f ≤ f′ → Up f g → Up f′ g
+-- so they do below more, and one behind the other
+pub up-more : (f f′ : ℕ) (g : List Pair) → f ≤ f′ → Up f g → Up f′ g
 up-more f f′ [] l u = tt
 up-more f f′ (a ∷ g) l u = (u .0, omega (arith, l, u .1), up-more f f′ g l (u .2))
 
-up-append : (f : ℕ) (g h : List Pair) → Up f g → Up f h → Up f (g ++ h)
+pub up-append : (f : ℕ) (g h : List Pair) → Up f g → Up f h → Up f (g ++ h)
 up-append f [] h u v = v
 up-append f (a ∷ g) h u v = (u .0, u .1, up-append f g h (u .2) v)
 
-into-below : (f n : ℕ) (g : List Pair) → Up f g → Into g n → n < f
+-- what has an arc into it is below, too
+pub into-below : (f n : ℕ) (g : List Pair) → Up f g → Into g n → n < f
 into-below f n [] u i = absurd i
 into-below f n (a ∷ g) u (inl e) = omega (arith, u .1, e)
 into-below f n (a ∷ g) u (inr i) = into-below f n g (u .2) i
@@ -123,7 +125,7 @@ side-climb own other w s P r h g u l inner =
     (inner (rooted-more (s .arcs) (i .arcs) P g) up (o .stands))
 
 -- the parents of ended sides
-parents-up : (m n : Option ℕ) (f : ℕ) (g : List Pair) → Up f g → Up (suc f) (parents m n f g)
+pub parents-up : (m n : Option ℕ) (f : ℕ) (g : List Pair) → Up f g → Up (suc f) (parents m n f g)
 unfolding parents
 parents-up m n f [] u = tt
 parents-up m n f (a ∷ g) u = go (parents-up m n f g (u .2)) (leads m (a .to)) (leads n (a .to))

@@ -1,16 +1,16 @@
 -- The columns of a graph by its numbers tell its canonical graph. The walk over the columns is the graph's,
 -- so the numbers are; sorted pairs ascend and join the numbers that the canonical ones join, so they are
 -- those; and marks and words are read back as they were put. Assumes nothing.
-use Prim.Native.Nat.{ℕ, zero, suc, _+_, _*_, _-_, _/_, _%_, min, _≤_, _<_}
+use Prim.Native.Nat.{ℕ, zero, suc, _+_, _-_, _/_, _%_, min, _≤_, _<_}
 use mathlib.Core.Path.{_≡_, refl, sym, ap, ap₂, _∙_}
 use mathlib.Core.Bool.{Bool, true, false, _&&_, _||_, not}
 use mathlib.Core.List.{List, [], _∷_, _++_, map}
 use mathlib.Core.Option.{Option, none, some}
 use native.Mathlib.Omega.{arith}
 use native.Mathlib.Nat.{zero-add, add-zero, add-suc, suc-add}
-use lib.ListN.{length, getD, getElem?, set, replicate, drop, length-map, length-replicate, getD-replicate}
+use lib.ListN.{length, getD, getElem?, replicate, drop, length-map, length-replicate, getD-replicate}
 use lib.ListN.{List·getD-append, List·getD-eq-default}
-use lib.Seq.{sets, sets-eq, length-sets, getD-append-add, getD-drop, getD-set-other}
+use lib.Seq.{sets, sets-eq, getD-append-add, getD-drop}
 use lib.Dec.{leb, ltb, eqb}
 use borrow.Author.Tests.{eqb-true, eqb-false, ltb-true, ltb-false, le-leb, lt-leb}
 use Rattle.lines.specs.Line.{choose}
@@ -21,13 +21,13 @@ use Rattle.places.specs.Place.{left-path}
 use Rattle.places.specs.Code.{Columns, columns, literal-path, literal-definition}
 use Rattle.places.specs.declared.Literal.the-variants.{Left, Own, Event}
 use Rattle.places.proofs.Ways.{look-in, look-out}
-use Rattle.control.specs.Words.{reference-room, track-words, track-word}
+use Rattle.control.specs.Words.{reference-room, track-words}
 use Rattle.report.specs.Track.{Label, Pair, lookup}
 use Rattle.report.specs.Run.{arc-room, meeting-room}
 use Rattle.report.proofs.Marked.{tally}
 use Rattle.report.proofs.Weighed.{between}
 use Rattle.plans.specs.Laid.{layout, place-of, found}
-use Rattle.stepping.specs.Views.{pairs, place-told}
+use Rattle.stepping.specs.Views.{place-told}
 use Rattle.tracks.specs.Graph.{Graph, joins, meets}
 use Rattle.tracks.specs.Walk.{among, order}
 use Rattle.tracks.specs.Saved.{placed, numbered, canonical}
@@ -39,14 +39,14 @@ use Rattle.tracks.proofs.Rows.{tested}
 use Rattle.tracks.proofs.Counted.{joins-between}
 use Rattle.tracks.proofs.Canonical.{canonical-arcs, canonical-arcs-ascend, canonical-arcs-few}
 use Rattle.tracks.proofs.Canonical.{canonical-meetings, canonical-meetings-ascend, canonical-meetings-few}
-use Rattle.walks.specs.Columns.{at, flat}
+use Rattle.walks.specs.Columns.{at}
 use Rattle.walks.specs.Walked.{numbers, laid, marks-by}
 use Rattle.walks.proofs.Telling.{Telling, mark-told, labelled-told}
 use Rattle.walks.proofs.LinkedWords.{marked, marked-inside}
 use Rattle.walks.proofs.LinkTold.{all-fit-told, walked-told}
 use Rattle.numbering.specs.Numbered.{renumbered, sorted, arcs-in, meetings-in, order-by, arcs-by, meetings-by}
 use Rattle.numbering.specs.Numbered.{labels-out, track-out}
-use Rattle.numbering.proofs.Listed.{pairs-length, pairs-back}
+use Rattle.numbering.proofs.Listed.{pairs-length, arcs-back, meetings-back}
 use Rattle.numbering.proofs.Renumbering.{renumbered-below}
 use Rattle.numbering.proofs.Ordering.{sorted-joins, sorted-ascends}
 use Rattle.writing.specs.Told.{literal, place-by, labels-told, graph-told}
@@ -142,43 +142,6 @@ laid-told xs few i = go (ltb i reference-room) (ltb i (length xs)) refl refl
         let past = ltb-false i reference-room e in
         sym (look-out reference-room (laid xs) i past) ∙ sym (List·getD-eq-default xs 0 (omega arith))
 
--- words put behind others leave these
-front-stays : (w : List ℕ) (b : ℕ) (vs : List ℕ) (i : ℕ) → i < b → getD (sets w b vs) i 0 ≡ getD w i 0
-front-stays w b [] i h = refl
-front-stays w b (v ∷ vs) i h =
-    front-stays (set w b v) (suc b) vs i (omega arith) ∙ getD-set-other w b i v 0 (λ e. omega arith)
-
--- and the pairs that are read from them
-pairs-stay : (base : ℕ) (w : List ℕ) (b : ℕ) (vs : List ℕ) (i c : ℕ) → base + 2 * (i + c) ≤ b
-    → pairs base (sets w b vs) i c ≡ pairs base w i c
-unfolding pairs track-word
-pairs-stay base w b vs i zero h = refl
-pairs-stay base w b vs i (suc c) h =
-    rw (
-      front-stays w b vs (base + 2 * i) (omega arith),
-      front-stays w b vs (base + 2 * i + 1) (omega arith),
-      pairs-stay base w b vs (suc i) c (omega arith),
-    )
-
--- the pairs of a track are read back from its words, where they have room
-module _ (w : List ℕ) (long : length w ≡ track-words) (as′ ms : List Pair) (few : length as′ ≤ arc-room)
-    (few-met : length ms ≤ meeting-room) where
-  abbrev both-put : List ℕ
-  both-put = sets (sets w 0 (flat as′)) 16384 (flat ms)
-
-  arcs-back : pairs 0 both-put 0 (min (length as′) arc-room) ≡ as′
-  arcs-back =
-      let all : min (length as′) arc-room ≡ length as′ = omega arith in
-      ap (pairs 0 both-put 0) all
-      ∙ pairs-stay 0 (sets w 0 (flat as′)) 16384 (flat ms) 0 (length as′) (omega arith)
-      ∙ pairs-back 0 w as′ long (omega arith)
-
-  meetings-back : pairs 16384 both-put 0 (min (length ms) meeting-room) ≡ ms
-  meetings-back =
-      let all : min (length ms) meeting-room ≡ length ms = omega arith in
-      ap (pairs 16384 both-put 0) all
-      ∙ pairs-back 16384 (sets w 0 (flat as′)) ms (length-sets w 0 (flat as′) ∙ long) (omega arith)
-
 -- what a map has at a place that there is
 map-at : (f : ℕ → ℕ) (o : List ℕ) (i : ℕ) → i < length o → getD (map f o) i 0 ≡ f (getD o i 0)
 map-at f [] i h = absurd (omega arith)
@@ -200,7 +163,7 @@ labels-numbered c ls ms out k (n ∷ o) marks places =
     rw (places n (among-first n o), here, rest)
 
 -- a mark tells the place of its literal
-mark-place : (s : Sofar) (m : ℕ) → (m ≡ 0 → ⊥)
+pub mark-place : (s : Sofar) (m : ℕ) → (m ≡ 0 → ⊥)
     → place-told (layout s) m ≡ place-by (columns (kinds s) (owners s) (afters s) (roots s)) m
 unfolding place-told literal layout place-of found literal-definition literal-path
 mark-place s m some-mark = go (eqb m 1) (eqb (m % 2) 0) refl
@@ -331,5 +294,5 @@ module _ (text : List ℕ) (s : Sofar) (q : judged text ≡ accepted s) (ms : Li
       omega (arith, ap length meetings, canonical-meetings-few g, few-meetings) in
       let long = length-replicate {A = ℕ} track-words 0 in
       same-graph labels-are
-      (arcs-back (replicate track-words 0) long _ _ arcs-fit meetings-fit ∙ arcs)
-      (meetings-back (replicate track-words 0) long _ _ arcs-fit meetings-fit ∙ meetings)
+      (arcs-back (replicate track-words 0) long _ _ arcs-fit meetings-fit _ (omega arith) ∙ arcs)
+      (meetings-back (replicate track-words 0) long _ _ arcs-fit meetings-fit _ (omega arith) ∙ meetings)

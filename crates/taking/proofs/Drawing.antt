@@ -1,7 +1,7 @@
 -- What a step draws, by its derivation: references from the fresh one on; its arcs climb, its event nodes are
 -- drawn, and an Ω that it leaves stands at a reference of its own that has no label. By the derivation, rule
 -- by rule: a side's step is told of its split with what entering the side added in front. Assumes nothing.
-use Prim.Native.Nat.{ℕ, suc, _+_, _≤_, _<_}
+use Prim.Native.Nat.{ℕ, _+_, _≤_, _<_}
 use mathlib.Core.Path.{_≡_, refl, _∙_}
 use mathlib.Core.Bool.{Bool, true, false}
 use mathlib.Core.List.{List, [], _∷_, _++_, append-assoc}
@@ -14,16 +14,16 @@ use Rattle.terms.specs.Term.{call, SKIP, STOP, Term}
 use Rattle.places.specs.Place.{Place}
 use Rattle.report.specs.Process.{Event, τ, ✓, Address, Split, choice, together, Process, leaf, prefix}
 use Rattle.report.specs.Process.{internal, split, sequence, Ω, ⊥′}
-use Rattle.report.specs.Track.{Label, Pair, pair, At, Outcome, Entered, labelled, prefixed, first-eval}
+use Rattle.report.specs.Track.{Label, At, Outcome, Entered, labelled, prefixed, first-eval}
 use Rattle.report.specs.Track.{inside, around, beside, right-eval, right-inside, jointly, carried, started}
-use Rattle.report.specs.Track.{leads, parents, ended, lookup}
+use Rattle.report.specs.Track.{ended, lookup}
 use Rattle.report.specs.Tracking.{Shows, passes, hides-τ, hides-✓, Tracks, process-call, prefixing, skip}
 use Rattle.report.specs.Tracking.{stop, internal-choice-1, internal-choice-2, external-choice-1}
 use Rattle.report.specs.Tracking.{external-choice-2, external-choice-3, external-choice-4}
 use Rattle.report.specs.Tracking.{sequential-composition-1, sequential-composition-2}
 use Rattle.report.specs.Tracking.{synchronized-parallelism-1, synchronized-parallelism-2}
 use Rattle.report.specs.Tracking.{synchronized-parallelism-3, synchronized-parallelism-4}
-use Rattle.report.proofs.Climbing.{Up}
+use Rattle.report.proofs.Climbing.{Up, up-more, up-append, parents-up}
 use Rattle.report.proofs.Marked.{one-same, past, past-drawn, next-past, Unentered, By-side, Fit, side-fit}
 use Rattle.report.proofs.Holding.{held, side-held, split-held, unentered-held}
 use Rattle.stepping.specs.Views.{first-of}
@@ -48,27 +48,7 @@ Once n P f = (j : ℕ) → held j n P ≤ past j f
 pub once-drawn : (n : ℕ) (P : Process) (f : ℕ) → Once n P f → n < f
 once-drawn n P f h = past-drawn n f (omega (arith, h n, held-own n P))
 
--- of arcs that climb, and of event nodes
-pub up-more : (f f′ : ℕ) (g : List Pair) → f ≤ f′ → Up f g → Up f′ g
-up-more f f′ [] h u = tt
-up-more f f′ (a ∷ g) h u = (u .0, omega (arith, h, u .1), up-more f f′ g h (u .2))
-
-pub up-append : (f : ℕ) (g h : List Pair) → Up f g → Up f h → Up f (g ++ h)
-up-append f [] h u v = v
-up-append f (a ∷ g) h u v = (u .0, u .1, up-append f g h (u .2) v)
-
-up-parents : (m n : Option ℕ) (f : ℕ) (g : List Pair) → Up f g → Up (suc f) (parents m n f g)
-unfolding parents
-up-parents m n f [] u = tt
-up-parents m n f (a ∷ g) u = go (up-parents m n f g (u .2)) (leads m (a .to)) (leads n (a .to))
-  where
-    go : Up (suc f) (parents m n f g) → (b c : Bool)
-        → Up (suc f) (choose b (pair (a .from) f ∷ parents m n f g)
-        (choose c (pair (a .from) f ∷ parents m n f g) (parents m n f g)))
-    go h true c = (omega (arith, u .0, u .1), omega arith, h)
-    go h false true = (omega (arith, u .0, u .1), omega arith, h)
-    go h false false = h
-
+-- each event node is drawn before f
 abbrev pub Below : ℕ → List ℕ → Type 0
 Below f ms = Each (λ (m : ℕ). m < f) ms
 
@@ -226,7 +206,7 @@ unfolding ended lookup
 ended-draws m n s u = record {
   more = omega arith;
   stands = omega arith;
-  up = up-parents m n (s .fresh) (s .arcs) u;
+  up = parents-up m n (s .fresh) (s .arcs) u;
   below = tt;
   last = λ q. (omega arith, refl);
 }

@@ -12,7 +12,7 @@ use Rattle.places.specs.Place.{Place}
 use Rattle.report.specs.Process.{Address, together, Process, split, cells}
 use Rattle.report.specs.Track.{At, Entered, first-eval, inside, around, beside, meet, jointly}
 use Rattle.report.specs.Step.{Stepped, step}
-use Rattle.report.proofs.Climbing.{Up}
+use Rattle.report.proofs.Climbing.{Up, up-more, up-append}
 use Rattle.report.proofs.Derived.{step-derived}
 use Rattle.report.proofs.Marked.{side-fit}
 use Rattle.plans.specs.Plan.{Layout, second}
@@ -23,8 +23,7 @@ use Rattle.stepping.specs.Take.{across}
 use Rattle.stepping.specs.declared.Tally.{Tally}
 use Rattle.taking.proofs.Writing.{Words}
 use Rattle.taking.proofs.Going.{at-words, Fits}
-use Rattle.taking.proofs.Drawing.{up-more, up-append, draws, side-once, side-fresh, side-up}
-use Rattle.taking.proofs.Drawing.{past-more}
+use Rattle.taking.proofs.Drawing.{draws, side-once, side-fresh, side-up, past-more}
 use Rattle.taking.proofs.Opening.{left, right, frame-in, Entry, entry-drawn}
 use Rattle.taking.proofs.Entering.{enter-to}
 use Rattle.taking.proofs.Starting.{entry-up, entry-draws, Starts, starts-by, in-side-is}

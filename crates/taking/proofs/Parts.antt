@@ -21,8 +21,8 @@ use Rattle.terms.specs.Term as Term
 use Rattle.places.specs.Place.{Place}
 use Rattle.report.specs.Process.{Process, leaf, prefix, internal, split, sequence, Ω, ⊥′, joined, untouched}
 use Rattle.report.specs.Process.{below, cells}
-use Rattle.report.specs.Track.{Pair, pair, lookup}
-use Rattle.report.proofs.Climbing.{Up}
+use Rattle.report.specs.Track.{pair, lookup}
+use Rattle.report.proofs.Climbing.{Up, up-more, up-append}
 use Rattle.plans.specs.Plan.{Layout, kind, operand, second, around, first-around, second-around, Leads, Planned}
 use Rattle.plans.proofs.Laws.{word-out}
 use Rattle.control.specs.Words.{reference-room, track-words, node}
@@ -240,14 +240,6 @@ clean-after l own u v a c w = record {
   whole-track = w .long-track ∙ c .whole-track;
   clean = λ j i h e. w .later j h i e ∙ c .clean j i (omega (arith, h, w .more)) e;
 }
-
-up-more : (f f′ : ℕ) (g : List Pair) → f ≤ f′ → Up f g → Up f′ g
-up-more f f′ [] h u = tt
-up-more f f′ (a ∷ g) h u = (u .0, omega (arith, h, u .1), up-more f f′ g h (u .2))
-
-up-append : (f : ℕ) (g h : List Pair) → Up f g → Up f h → Up f (g ++ h)
-up-append f [] h u v = v
-up-append f (a ∷ g) h u v = (u .0, u .1, up-append f g h (u .2) v)
 
 -- and arcs climb, where those that are added do
 pub sound-after : (l : Layout) (own : ℕ → ℕ) (u v : Words) (a : Added) → Sound u → Writes l own u v a

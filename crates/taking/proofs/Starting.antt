@@ -14,7 +14,7 @@ use Rattle.report.specs.Track.{Entered, Outcome, first-eval, around}
 use Rattle.report.specs.Track as Track
 use Rattle.report.specs.Tracking.{Tracks}
 use Rattle.report.specs.Step.{Stepped, step}
-use Rattle.report.proofs.Climbing.{Up}
+use Rattle.report.proofs.Climbing.{Up, up-more, up-append}
 use Rattle.report.proofs.Derived.{step-derived}
 use Rattle.report.proofs.Marked.{Fit, side-fit}
 use Rattle.plans.specs.Plan.{Layout, kind}
@@ -28,7 +28,7 @@ use Rattle.stepping.specs.declared.Tally.{Tally}
 use Rattle.taking.proofs.TrackLoops.{capped-below}
 use Rattle.taking.proofs.Writing.{Words}
 use Rattle.taking.proofs.Going.{at-words, Fits, Ready}
-use Rattle.taking.proofs.Drawing.{up-more, up-append, Draws, draws, side-once, side-fresh, side-up}
+use Rattle.taking.proofs.Drawing.{Draws, draws, side-once, side-fresh, side-up}
 use Rattle.taking.proofs.Opening.{Side, number, side-term, frame-in, Entry, entry-drawn, split-below}
 use Rattle.taking.proofs.Entering.{enter-to, Enters, side-enters, enters-ready, enters-stands}
 

@@ -34,7 +34,8 @@ use Rattle.tracks.proofs.Refusals.{parsed-refused, judged-refused}
 pub use Rattle.tracks.proofs.Refusals.{Refusal, no-line, out-of-place, out-of-range, misshapen}
 
 -- a text that is read says a graph of the reader's shape
-read-parts : (ts : List Term) (r : Parsed) (g : Graph) → judged ts r ≡ says g → (r ≡ says g) × (shaped ts g ≡ true)
+pub read-parts : (ts : List Term) (r : Parsed) (g : Graph) → judged ts r ≡ says g
+    → (r ≡ says g) × (shaped ts g ≡ true)
 unfolding judged
 read-parts ts (says h) g e = go (shaped ts h) refl e
   where

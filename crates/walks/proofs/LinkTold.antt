@@ -33,7 +33,8 @@ use Rattle.walks.specs.Columns.{at}
 use Rattle.walks.specs.Linked.{side-words, slot, linked, all-fit, target, on}
 use Rattle.walks.specs.Walked.{first, walked}
 use Rattle.walks.proofs.Telling.{Telling, Leads, labelled-told, slot-told}
-use Rattle.walks.proofs.LinkedWords.{slot-most, room, room-most, word-of, marked, reaches, led, Fits, Links}
+use Rattle.walks.proofs.LinkLaws.{slot-most}
+use Rattle.walks.proofs.LinkedWords.{room, room-most, word-of, marked, reaches, led, Fits, Links}
 use Rattle.walks.proofs.LinkedWords.{marked-inside, led-marked, all-fit-links, fits-all-fit}
 
 -- tests that agree on some references keep the same of them, and hold of all or not alike
@@ -244,7 +245,7 @@ module _ (text : List ℕ) (s : Sofar) (q : judged text ≡ accepted s) (ms : Li
             every-alike _ (λ m. not (eqb (slot-of n m) 0)) (targets g n) (λ m i.
             ap₂ (λ a b. a || b) (on-its-side h 1 (omega arith) (omega arith) m i)
             (on-its-side h 2 (omega arith) (omega arith) m i)
-            ∙ some-slot (slot-of n m) (slot-most (kinds s) (afters s) _ _))
+            ∙ some-slot (slot-of n m) (slot-most (kinds s) (afters s) _ _ _ refl))
             ∙ every-fails (λ m. eqb (slot-of n m) 0) (targets g n)
             ∙ ap (λ l. leb (length l) 0) (sym (led-targets n 0 (g .arcs)))
 
@@ -267,7 +268,8 @@ module _ (text : List ℕ) (s : Sofar) (q : judged text ≡ accepted s) (ms : Li
         others h m i =
             let none-out = rw (led-targets n 0 (g .arcs)) at (fits-lengths n fits 0 (omega arith)) in
             sym (ap not (on-its-side h 1 (omega arith) (omega arith) m i)
-            ∙ other-slot (slot-of n m) (slot-most (kinds s) (afters s) _ _) (keep-fails _ (targets g n) none-out m i))
+            ∙ other-slot (slot-of n m) (slot-most (kinds s) (afters s) _ _ _ refl)
+            (keep-fails _ (targets g n) none-out m i))
 
         go : (b : Bool) → Shape.splits (definitions-of s) w ≡ b
             → led-to n 1 ++ led-to n 2

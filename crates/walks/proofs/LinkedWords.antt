@@ -8,7 +8,7 @@ use mathlib.Core.List.{List, [], _∷_, _++_, append-nil, append-assoc}
 use native.Mathlib.Omega.{arith}
 use lib.ListN.{length, set, replicate, length-append, length-set, length-replicate, getD-replicate}
 use lib.Seq.{getD-set-same, getD-set-other}
-use lib.Dec.{leb, ltb, eqb}
+use lib.Dec.{ltb, eqb}
 use borrow.Author.Tests.{eqb-true, eqb-false, eq-eqb, ne-eqb, ltb-true, ltb-false, not-true}
 use Rattle.lines.specs.Line.{choose}
 use Rattle.lines.proofs.Digits.{both}
@@ -19,24 +19,9 @@ use Rattle.report.specs.Track.{Pair}
 use Rattle.tracks.specs.Walk.{among}
 use Rattle.tracks.proofs.Walking.{Within}
 use Rattle.walks.specs.Columns.{put, at}
-use Rattle.walks.specs.Linked.{side-words, term-of, splits, side-of, slot, bare, arc-slot, free}
-use Rattle.walks.specs.Linked.{with-arc, linked, all-fit}
+use Rattle.walks.specs.Linked.{side-words, slot, bare, arc-slot, free, with-arc, linked, all-fit}
 use Rattle.walks.proofs.WordLaws.{put-in}
-
--- a slot is one of three
-pub slot-most : (ks xs : List ℕ) (m n : ℕ) → slot ks xs m n ≤ 2
-unfolding slot side-of
-slot-most ks xs m n =
-    go (splits ks m) (ltb n 2) (leb (term-of n) (term-of m)) (ltb (term-of n) (look 1024 xs (term-of m + 1)))
-    (ltb (term-of n) (look 1024 xs (term-of m)))
-  where
-    go : (a b c d e : Bool) → choose a (choose b 0 (choose c 0 (choose d 1 (choose e 2 0)))) 2 ≤ 2
-    go true true c d e = omega arith
-    go true false true d e = omega arith
-    go true false false true e = omega arith
-    go true false false false true = omega arith
-    go true false false false false = omega arith
-    go false b c d e = omega arith
+use Rattle.walks.proofs.LinkLaws.{slot-most}
 
 -- how many arcs may lead to a side: none to slot 0, which is no side
 unfoldable pub room : ℕ → ℕ
@@ -197,7 +182,7 @@ module _ (ms ks xs : List ℕ) where
       free-side h f =
           let (sided, unused) = both (not (eqb (arc-slot ms ks xs a) 0)) _ f in
           let some-side = eqb-false (arc-slot ms ks xs a) 0 (not-true _ sided) in
-          let most = slot-most ks xs (at ms (a .from)) (at ms (a .to)) in
+          let most = slot-most ks xs (at ms (a .from)) (at ms (a .to)) _ refl in
           let word = l .words (a .from) (arc-slot ms ks xs a) (arc-marked h .0) (omega arith) most in
           (some-side, word-none _ (sym word ∙ eqb-true _ 0 unused))
 
@@ -222,11 +207,11 @@ module _ (ms ks xs : List ℕ) where
           inside : i < side-words
           inside =
               let from-in = marked-inside (a .from) (arc-marked h .0) in
-              omega (arith, slot-most ks xs (at ms (a .from)) (at ms (a .to)))
+              omega (arith, slot-most ks xs (at ms (a .from)) (at ms (a .to)) _ refl)
 
           apart : (n x : ℕ) → 1 ≤ x → x ≤ 2 → reaches n x a ≡ false → 2 * n + x ≡ i → ⊥
           apart n x least most e same =
-              let y-most : y ≤ 2 = slot-most ks xs (at ms (a .from)) (at ms (a .to)) in
+              let y-most : y ≤ 2 = slot-most ks xs (at ms (a .from)) (at ms (a .to)) _ refl in
               let y-some : y ≡ 0 → ⊥ = free-side h f .0 in
               let (start, side) : (n ≡ a .from) × (x ≡ y) = (omega arith, omega arith) in
               let reached = ap₂ (λ k z. reaches k z a) start side ∙ reaches-own h in
@@ -290,7 +275,7 @@ module _ (ms ks xs : List ℕ) where
           go true e = refl
           go false e =
               let from = arc-marked e .0 in
-              let most = slot-most ks xs (at ms (a .from)) (at ms (a .to)) in
+              let most = slot-most ks xs (at ms (a .from)) (at ms (a .to)) _ refl in
               let few = rw (led-append (a .from) y done (a ∷ as′), reaches-own e) at (fits (a .from) y from most) in
               let parts = length-append (led (a .from) y done) (a .to ∷ led (a .from) y as′) in
               let some-side = some-room y (omega arith) in

@@ -2,19 +2,16 @@
 -- side has terms. So a path begins with a term's path and a side's digit exactly where its number is one of the
 -- run's: going down both paths together, either both go into one side, or they part into two sides, whose runs are
 -- apart. Assumes nothing.
-use Prim.Native.Nat.{ℕ, suc, _+_, _≤_, _<_}
+use Prim.Native.Nat.{ℕ, _+_, _≤_, _<_}
 use mathlib.Core.Path.{_≡_, refl, sym, ap, _∙_}
 use mathlib.Core.Bool.{Bool, true, false, _&&_}
 use mathlib.Core.List.{List, [], _∷_, _++_}
 use mathlib.Core.Logic.{_⊎_, inl, inr}
 use native.Mathlib.Omega.{arith}
-use native.Mathlib.Nat.{add-zero, add-assoc}
-use native.Mathlib.Numerals.{add-one}
-use lib.ListN.{getD}
+use native.Mathlib.Nat.{add-assoc}
 use lib.Dec.{leb, ltb, eqb}
 use borrow.Author.Tests.{ltb-true, ltb-false, lt-ltb, le-ltb, leb-true, leb-false, le-leb, lt-leb, eq-eqb, ne-eqb}
-use Rattle.terms.specs.Term.{Term, size, Holds}
-use Rattle.terms.proofs.Held.{holds-behind}
+use Rattle.terms.specs.Term.{Term, size}
 use Rattle.places.specs.Place.{path-in, term-at, IsPrefix, PrefixAt, begins}
 use Rattle.places.proofs.Sides.{Side, only, first, second, by-number, side-first, side-inside, side-at}
 use Rattle.places.proofs.Sides.{path-root, term-root}
@@ -114,25 +111,6 @@ pub term-fits : (T : Term) (n : ℕ) → n < size T → n + size (term-at T n) �
 term-fits =
     by-number (λ T n. n + size (term-at T n) ≤ size T) (λ T. rw (term-root T) (omega arith))
     λ T t x k n s h further. rw (side-at n s h .1) (omega (arith, further, side-inside s))
-
--- columns that hold a term
-module _ (ks ps xs : List ℕ) where
-  -- hold its sides
-  side-held : {T t : Term} {x k : ℕ} (i : ℕ) → Side T x k t → Holds ks ps xs i T → Holds ks ps xs (i + k) t
-  side-held i (only e t) h = rw add-one (h .3)
-  side-held i (first o t u) h = rw add-one (h .3)
-  side-held i (second o t u) h =
-      let m : getD xs (suc i) 0 ≡ i + (1 + size t) = omega (arith, holds-behind ks ps xs (suc i) t (h .3)) in
-      rw m at (h .4)
-
-  -- and its number n from there on
-  pub number-held : (T : Term) (n : ℕ) → n < size T → (i : ℕ) → Holds ks ps xs i T
-      → Holds ks ps xs (i + n) (term-at T n)
-  number-held =
-      by-number (λ T n. (i : ℕ) → Holds ks ps xs i T → Holds ks ps xs (i + n) (term-at T n))
-      (λ T i h. rw (term-root T, add-zero i) h)
-      λ T t x k n s h further i r.
-      rw (side-at n s h .1, ← add-assoc i k n) (further (i + k) (side-held i s r))
 
 -- the path of number j of T, with its tail, begins with that of number i and the digit of a side of number i
 -- exactly where j is one of the side's numbers

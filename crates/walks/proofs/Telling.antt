@@ -27,7 +27,7 @@ use Rattle.places.specs.Place.{Place, path-in, term-at, left-path, own, event, 
 use Rattle.places.specs.Code.{look, columns}
 use Rattle.places.proofs.Ways.{look-in}
 use Rattle.places.proofs.Sides.{Side, first, second, side-inside}
-use Rattle.places.proofs.Laws.{own-found, event-found, left-apart, Defined, checked-roots}
+use Rattle.places.proofs.Laws.{own-found, event-found, left-apart, holds-at, Defined, checked-roots}
 use Rattle.report.specs.Track.{lookup}
 use Rattle.plans.specs.Plan.{Layout}
 use Rattle.plans.specs.Laid.{layout}
@@ -40,8 +40,7 @@ use Rattle.tracks.proofs.Pairs.{refuted}
 use Rattle.walks.specs.Columns.{at}
 use Rattle.walks.specs.Linked.{term-of, splits, side-of, slot}
 use Rattle.walks.proofs.SideLaws.{runs, runs-in, runs-before, runs-behind, runs-true, runs-moved}
-use Rattle.walks.proofs.SideLaws.{Tail, term-fits}
-use Rattle.walks.proofs.SideLaws.{number-held, side-begins}
+use Rattle.walks.proofs.SideLaws.{Tail, term-fits, side-begins}
 
 -- the place that a mark tells; 0 is no mark
 unfoldable pub mark-told : Layout → ℕ → Option Place
@@ -172,7 +171,7 @@ module _ (text : List ℕ) (s : Sofar) (q : judged text ≡ accepted s) where
     held : Holds (kinds s) (defined .payloads) (afters s) t (term-at (b .tree) (b .number))
     held =
         subst (λ i. Holds (kinds s) (defined .payloads) (afters s) i (term-at (b .tree) (b .number))) (sym (b .sum))
-        (number-held (kinds s) (defined .payloads) (afters s) (b .tree) (b .number) (b .inside)
+        (holds-at (kinds s) (defined .payloads) (afters s) (b .tree) (b .number) (b .inside)
         (root (b .definition)) (defined .held))
 
     fits : t + size (term-at (b .tree) (b .number)) ≤ term-room

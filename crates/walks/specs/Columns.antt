@@ -2,12 +2,14 @@
 -- and nothing is put.
 use Prim.Native.Nat.{ℕ, _%_}
 use mathlib.Core.List.{List, [], _∷_}
-use lib.ListN.{set}
+use lib.ListN.{length, set}
 use lib.Dec.{ltb}
 use Rattle.lines.specs.Line.{choose}
 use Rattle.places.specs.Code.{look}
 use Rattle.control.specs.Words.{reference-room}
 use Rattle.report.specs.Track.{Pair}
+use Rattle.tracks.specs.Graph.{Graph}
+use Rattle.walks.specs.declared.Counts.{Counts}
 
 -- word i of n put
 unfoldable pub put : ℕ → List ℕ → ℕ → ℕ → List ℕ
@@ -21,3 +23,7 @@ at = look reference-room
 unfoldable pub flat : List Pair → List ℕ
 flat [] = []
 flat (a ∷ as′) = a .from ∷ a .to ∷ flat as′
+
+-- how many nodes, arcs and meetings a graph has
+abbrev pub counts-of : Graph → Counts
+counts-of g = record { nodes = length (g .labels); arcs = length (g .arcs); meetings = length (g .meetings) }

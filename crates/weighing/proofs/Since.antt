@@ -5,7 +5,6 @@ use Prim.Native.Nat.{ℕ, zero, suc, _+_, _*_, _≤_, _<_}
 use mathlib.Core.Path.{_≡_, refl, sym, ap, _∙_}
 use mathlib.Core.Bool.{Bool, true, false, _||_}
 use mathlib.Core.List.{List, [], _∷_, _++_, append-nil, append-assoc}
-use mathlib.Core.Logic.{inl, inr}
 use mathlib.Core.Option.{Option, none, some}
 use native.Mathlib.Omega.{arith}
 use lib.ListN.{length}
@@ -18,8 +17,8 @@ use Rattle.report.specs.Process.{Address, Process, leaf, prefix, internal, spli
 use Rattle.report.specs.Track.{Pair, pair, At, first-eval, inside, beside, leads, parents}
 use Rattle.report.specs.Step.{Stepped, step}
 use Rattle.report.proofs.Derived.{step-derived}
-use Rattle.report.proofs.Drawn.{Into, Side, Rooted}
-use Rattle.report.proofs.Climbing.{Up}
+use Rattle.report.proofs.Drawn.{Side, Rooted}
+use Rattle.report.proofs.Climbing.{Up, into-below}
 use Rattle.report.proofs.Outward.{Outward, outward-less, outward-append, entering-draws, draws}
 use Rattle.control.specs.Words.{track-word}
 use Rattle.weighing.specs.Looking as Looking
@@ -39,14 +38,9 @@ Below f Ω = Unit {0}
 Below f ⊥′ = Unit {0}
 
 -- so they are in every run
-into-under : (f n : ℕ) (g : List Pair) → Up f g → Into g n → n < f
-into-under f n [] u i = absurd i
-into-under f n (a ∷ g) u (inl e) = omega (arith, u .1, e)
-into-under f n (a ∷ g) u (inr i) = into-under f n g (u .2) i
-
 side-under : (f : ℕ) (g : List Pair) (m : Option ℕ) (P : Process) → Up f g → Side g m P → Under f m
 side-under f g none P u h = tt
-side-under f g (some n) P u h = into-under f n g u h
+side-under f g (some n) P u h = into-below f n g u h
 
 pub rooted-below : (f : ℕ) (g : List Pair) (P : Process) → Up f g → Rooted g P → Below f P
 rooted-below f g (leaf v l) u r = tt
