@@ -13,11 +13,11 @@ use lib.Dec.{eqb}
 use borrow.Author.Tests.{eqb-true, eqb-false, eq-eqb, ne-eqb}
 use Rattle.lines.specs.Line.{choose}
 use Rattle.places.specs.Place.{Place}
-use Rattle.report.specs.Process.{Split, choice, Process, leaf, prefix, internal, split, sequence, Ω, ⊥′, cells}
-use Rattle.report.proofs.Holding.{held}
-use Rattle.plans.specs.Plan.{Layout, around}
-use Rattle.control.specs.Control.{label, term, frame, innermost, behind, Around, beyond, inside}
-use Rattle.control.specs.Control.{Stands, Rests, Splits, Follows, Holds}
+use Rattle.rules.specs.Process.{Split, choice, Process, leaf, prefix, internal, split, sequence, Ω, ⊥′, cells}
+use Rattle.rules.proofs.Holding.{held}
+use Rattle.plans.specs.words.Plan.{Layout, around}
+use Rattle.control.specs.words.Control.{label, term, frame, innermost, behind, Around, beyond, inside}
+use Rattle.control.specs.words.Control.{Stands, Rests, Splits, Follows, Holds}
 
 module _ (p w : List ℕ) where
   -- innermost sequence and frame behind it, by whether the plan has a sequence around the term

@@ -13,15 +13,15 @@ use Rattle.lines.specs.Line.{choose}
 use Rattle.terms.specs.Term.{Term, external, parallel}
 use Rattle.terms.specs.Term as Term
 use Rattle.places.specs.Place.{Place}
-use Rattle.report.specs.Process.{Split, Process, leaf, prefix, internal, split, sequence, Ω, ⊥′, below, joined}
-use Rattle.report.specs.Process.{untouched, cells}
-use Rattle.report.proofs.Marked.{one, one-same}
-use Rattle.report.proofs.Holding.{held}
-use Rattle.plans.specs.Plan.{Layout, second, around}
-use Rattle.control.specs.Words.{node, put}
-use Rattle.control.specs.Control.{label, term, frame, innermost, behind, Around, inside}
-use Rattle.control.specs.Control.{first-cells, second-cells, Untouched, Stands, Rests, Splits, Follows}
-use Rattle.control.specs.Control.{Holds}
+use Rattle.rules.specs.Process.{Split, Process, leaf, prefix, internal, split, sequence, Ω, ⊥′, below, joined}
+use Rattle.rules.specs.Process.{untouched, cells}
+use Rattle.rules.proofs.Marked.{one, one-same}
+use Rattle.rules.proofs.Holding.{held}
+use Rattle.plans.specs.words.Plan.{Layout, second, around}
+use Rattle.control.specs.words.Words.{node, put}
+use Rattle.control.specs.words.Control.{label, term, frame, innermost, behind, Around, inside}
+use Rattle.control.specs.words.Control.{first-cells, second-cells, Untouched, Stands, Rests, Splits}
+use Rattle.control.specs.words.Control.{Follows, Holds}
 use Rattle.control.proofs.NodeLaws.{put-other}
 
 -- the words of reference j are the same

@@ -4,7 +4,7 @@ use mathlib.Core.Path.{_≡_}
 use mathlib.Core.List.{List}
 use lib.ListN.{getD, set}
 use borrow.Author.Tests.{lt-ltb, le-ltb}
-use Rattle.control.specs.Words.{reference-room, track-words, node, put, track-word, put-track}
+use Rattle.control.specs.words.Words.{reference-room, track-words, node, put, track-word, put-track}
 
 module _ (k : ℕ) (w : List ℕ) (n : ℕ) where
   pub node-in : n < reference-room → getD w (8 * n + k) 0 ≡ node k w n

@@ -4,3 +4,5 @@ pub mod Laws
 pub mod NodeLaws
 pub mod Framed
 pub mod Chains
+pub mod Capped
+pub mod Sums

@@ -12,7 +12,7 @@ use lib.Seq.{getD-set-same, getD-set-other}
 use lib.Dec.{ltb}
 use borrow.Author.Tests.{lt-ltb}
 use Rattle.lines.specs.Line.{choose}
-use Rattle.control.specs.Words.{reference-room, node, put}
+use Rattle.control.specs.words.Words.{reference-room, node, put}
 
 -- as many words as the references of a run have
 abbrev pub Whole : List ℕ → Type 0

@@ -1,3 +1,2 @@
 -- The words of a run, and how they hold a control.
-pub mod Words
-pub mod Control
+pub mod words

@@ -1,8 +1,10 @@
 // The words of a run. `nodes` has eight words for each reference: the label of its node, and what control stands
-// there; `track` has the arcs and the meetings in the order made. Out of range nothing is read or written.
+// there; `track` has the arcs and the meetings in the order made. Out of range nothing is read or written. Counts stop at
+// 65,535, which is past every room, so that a sum of them always has an answer.
 ghost use mathlib.Core.Path.{_≡_};
-ghost use Prim.Native.Nat.{_<_};
-ghost use Rattle.control.specs.Words as words;
+ghost use Prim.Native.Nat.{_<_, _+_, _*_, _-_};
+ghost use Rattle.control.specs.words.Words as words;
+ghost use Rattle.control.specs.words.Sums.{capped};
 
 // References of a run: one more than its arcs.
 const REFERENCES: usize = 8193;
@@ -81,4 +83,45 @@ fn wide(x: u16) -> usize
     ensures { λ r. ⌜ r ≡ x ⌝ }
 {
     x as usize
+}
+
+const MOST: usize = 65535;
+
+pub fn sum(a: usize, b: usize) -> usize
+    ensures { λ r. ⌜ r ≡ capped (a + b) ⌝ }
+{
+    if MOST < a {
+        return MOST;
+    }
+    if MOST < b {
+        return MOST;
+    }
+    let s = a + b;
+    if MOST < s { MOST } else { s }
+}
+
+pub fn product(a: usize, b: usize) -> usize
+    ensures { λ r. ⌜ r ≡ capped (a * b) ⌝ }
+{
+    if a == 0 {
+        return 0;
+    }
+    if b == 0 {
+        return 0;
+    }
+    if MOST < a {
+        return MOST;
+    }
+    if MOST < b {
+        return MOST;
+    }
+    let p = a * b;
+    if MOST < p { MOST } else { p }
+}
+
+// What is left of a, 0 where b is more.
+pub fn less(a: usize, b: usize) -> usize
+    ensures { λ r. ⌜ r ≡ a - b ⌝ }
+{
+    if a < b { 0 } else { a - b }
 }

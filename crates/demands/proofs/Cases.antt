@@ -9,17 +9,17 @@ use mathlib.Core.Option.{Option, none, some}
 use native.Mathlib.Omega.{arith}
 use lib.Dec.{eqb}
 use borrow.Author.Tests.{eqb-true, eqb-false}
-use Rattle.frames.specs.EventSet.{member}
+use Rattle.sets.specs.EventSet.{member}
 use Rattle.terms.specs.Term.{SKIP, STOP, parallel, Term, leaf, prefix, binary}
-use Rattle.report.specs.Process.{Event, one, two, three, Address, joined, untouched, right-side, cells}
-use Rattle.report.specs.Track.{labelled, prefixed, first-eval, around, each-with, meet}
-use Rattle.report.specs.Track.{jointly, carried, started, leads, parents, ended}
-use Rattle.report.specs.Step.{one-side, by-side, same, both-sides, with-right, in-sequence, by-left}
-use Rattle.report.specs.Step.{at-Ω, then, step}
-use Rattle.report.specs.Run.{State, start, after, over-room, Answer, accepted, refused, within-room}
-use Rattle.report.specs.Run.{whole, answered, answer, Reached, begun, goes-on}
-use Rattle.tracks.specs.Graph.{graph-of}
-use Rattle.tracks.specs.Saved.{saved}
+use Rattle.rules.specs.Process.{Event, one, two, three, Address, joined, untouched, right-side, cells}
+use Rattle.rules.specs.Track.{labelled, prefixed, first-eval, around, each-with, meet, jointly, carried}
+use Rattle.rules.specs.Track.{started, leads, parents, ended}
+use Rattle.rules.specs.Step.{one-side, by-side, same, both-sides, with-right, in-sequence, by-left, at-Ω}
+use Rattle.rules.specs.Step.{then, step}
+use Rattle.rules.specs.Run.{State, start, after, over-room, Answer, accepted, refused, within-room, whole}
+use Rattle.rules.specs.Run.{answered, answer, Reached, begun, goes-on}
+use Rattle.graphs.specs.Graph.{graph-of}
+use Rattle.graphs.specs.Saved.{saved}
 use Rattle.exchange.specs.Opposite.{Opposite, left-and-right}
 use Rattle.exchange.proofs.Exchange.{BothOrders, exchange}
 

@@ -14,24 +14,25 @@ use borrow.Author.Tests.{eqb-true, eqb-false}
 use Rattle.lines.specs.Line.{choose}
 use Rattle.tables.specs.Table.{Sofar}
 use Rattle.terms.specs.Term.{Term, definitions-of}
-use Rattle.report.specs.Process.{Event, Address, cells}
-use Rattle.report.specs.Run.{State, cell-room, node-room, arc-room, meeting-room, over-room, accepted, answer}
-use Rattle.report.specs.Run as Run
-use Rattle.plans.specs.Laid.{layout}
-use Rattle.runs.specs.Held.{Table, addressed, told, behind, answered}
+use Rattle.rules.specs.Process.{Event, Address, cells}
+use Rattle.rules.specs.Run.{State, cell-room, node-room, arc-room, meeting-room, over-room, accepted, answer}
+use Rattle.rules.specs.Run as Run
+use Rattle.plans.specs.words.Layout.{layout}
+use Rattle.runs.specs.words.Held.{Table, addressed, told, behind}
+use Rattle.rules.specs.Addressed.{answered}
 use Rattle.runs.proofs.Tabled.{checked-table}
 use Rattle.runs.specs.declared.Answer.{Answer}
 use Rattle.runs.specs.declared.Answer.the-variants.{Accepted, Refused}
 use Rattle.runs.specs.declared.Shown.{Shown}
-use Rattle.tracks.specs.Graph.{graph-of}
-use Rattle.tracks.specs.Saved.{saved}
+use Rattle.graphs.specs.Graph.{graph-of}
+use Rattle.graphs.specs.Saved.{saved}
 use Rattle.exchange.specs.Renamed.{renamed}
 use Rattle.exchange.specs.Opposite.{Opposite}
 use Rattle.exchange.proofs.Exchange.{BothOrders, exchange}
 use Rattle.writing.specs.declared.Saved.{Saved}
-use Rattle.saving.specs.Kept.{Table-of}
-use Rattle.demands.specs.Words.{Words, Planned, HoldsRun, Steps, SavesWords}
-use Rattle.demands.specs.Bytes.{bytes-of}
+use Rattle.saving.specs.words.Kept.{Table-of}
+use Rattle.demands.specs.words.Words.{Words, Planned, HoldsRun, Steps, SavesWords}
+use Rattle.demands.specs.words.Bytes.{bytes-of}
 use Rattle.demands.proofs.SavedBytes.{save-leaves}
 
 -- an accepted answer is document 01's acceptance

@@ -13,40 +13,40 @@ use lib.Dec.{ltb, eqb}
 use borrow.Author.Tests.{eqb-false, lt-ltb}
 use Rattle.lines.proofs.Digits.{both}
 use Rattle.tables.specs.Table.{Sofar, accepted, judged}
-use Rattle.tables.specs.Columns.{kinds, owners, afters, roots}
+use Rattle.tables.specs.words.Columns.{kinds, owners, afters, roots}
 use Rattle.terms.specs.Term.{Term, definitions-of}
-use Rattle.places.specs.Code.{Columns, columns}
-use Rattle.report.specs.Track.{Label, lookup}
-use Rattle.report.specs.Run.{State, arc-room, meeting-room}
-use Rattle.control.specs.Words.{reference-room, track-words}
-use Rattle.stepping.specs.Views.{pairs}
-use Rattle.tracks.specs.Graph.{Graph, graph-of, labelled}
-use Rattle.tracks.specs.Walk.{order}
-use Rattle.tracks.specs.Saved.{placed, numbered, canonical, graph-text, saved}
-use Rattle.tracks.specs.Parsed.{Parsed, says, refused, parsed}
-use Rattle.tracks.specs.Shape.{every, in-order, from-on, walked, shaped, ascends, branches, read}
-use Rattle.tracks.specs.Shape as Shape
-use Rattle.tracks.proofs.References.{same-true}
-use Rattle.tracks.proofs.Spelled.{Fits, says-text}
-use Rattle.tracks.proofs.Kept.{read-parts, saved-reads-back, read-writes-again, numbers-labelled}
-use Rattle.walks.specs.Columns.{at, flat, counts-of}
-use Rattle.walks.specs.Walked.{laid}
-use Rattle.walks.specs.declared.Counts.{Counts}
+use Rattle.columns.specs.words.Columns.{Columns, columns}
+use Rattle.rules.specs.Track.{Label, lookup}
+use Rattle.rules.specs.Run.{State, arc-room, meeting-room}
+use Rattle.control.specs.words.Words.{reference-room, track-words}
+use Rattle.control.specs.words.Views.{pairs}
+use Rattle.graphs.specs.Graph.{Graph, graph-of, labelled}
+use Rattle.graphs.specs.Walk.{order}
+use Rattle.graphs.specs.Saved.{placed, numbered, canonical, graph-text, saved}
+use Rattle.graphs.specs.Parsed.{Parsed, says, refused, parsed}
+use Rattle.graphs.specs.Shape.{every, in-order, from-on, walked, shaped, ascends, branches, read}
+use Rattle.graphs.specs.Shape as Shape
+use Rattle.graphs.proofs.References.{same-true}
+use Rattle.graphs.proofs.Spelled.{Fits, says-text}
+use Rattle.graphs.proofs.Kept.{read-parts, saved-reads-back, read-writes-again, numbers-labelled}
+use Rattle.links.specs.words.Columns.{at, flat, counts-of}
+use Rattle.walks.specs.code.Walked.{laid}
+use Rattle.links.specs.declared.Counts.{Counts}
 use Rattle.walks.proofs.Telling.{Telling, mark-told, labelled-told}
-use Rattle.numbering.proofs.Listed.{arcs-back, meetings-back}
-use Rattle.writing.specs.Told.{place-by, labels-told, graph-told}
+use Rattle.links.proofs.Listed.{arcs-back, meetings-back}
+use Rattle.framing.specs.words.Told.{place-by, labels-told, graph-told}
 use Rattle.writing.specs.declared.Saved.{Saved}
-use Rattle.saving.specs.Kept as Saving
+use Rattle.saving.specs.words.Kept as Saving
 use Rattle.saving.proofs.NumberedTold.{mark-place}
-use Rattle.parsing.specs.Found.{marks-of}
-use Rattle.reading.specs.Outcome.{answer, labels-left, graph-left}
-use Rattle.reading.specs.Kept.{Table-of, Reads}
+use Rattle.finding.specs.code.Found.{marks-of}
+use Rattle.reading.specs.code.Outcome.{answer, labels-left, graph-left}
+use Rattle.reading.specs.words.Kept.{Table-of, Reads}
 use Rattle.reading.specs.declared.Read.{Read}
 use Rattle.reading.specs.declared.Read.the-variants.{Accepted, Refused}
 use Rattle.reading.proofs.MarksTold.{marks-telling}
 use Rattle.reading.proofs.RuleLaws.{labels-below}
-use Rattle.demands.specs.Words.{Words, HoldsRun, SavesWords, Writes, told-by}
-use Rattle.demands.specs.Bytes.{bytes-of}
+use Rattle.demands.specs.words.Words.{Words, HoldsRun, SavesWords, Writes, told-by}
+use Rattle.demands.specs.words.Bytes.{bytes-of}
 use Rattle.demands.proofs.SavedBytes.{written-bytes, checked-shallow, checked-count, save-leaves}
 
 -- the places of a table's columns

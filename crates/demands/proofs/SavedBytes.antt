@@ -13,16 +13,16 @@ use borrow.Author.Tests.{le-leb, lt-leb}
 use Rattle.tables.specs.Table.{Sofar, accepted, judged}
 use Rattle.terms.specs.Term.{Term, definitions-of, Shallow}
 use Rattle.terms.proofs.Trees.{each-at, checked-trees}
-use Rattle.report.specs.Run.{State}
-use Rattle.tracks.specs.Graph.{graph-of}
-use Rattle.tracks.specs.Saved.{saved}
-use Rattle.tracks.proofs.Exactly.{Renumbering, saved-equal-exactly}
-use Rattle.writing.specs.Told.{answer, left}
+use Rattle.rules.specs.Run.{State}
+use Rattle.graphs.specs.Graph.{graph-of}
+use Rattle.graphs.specs.Saved.{saved}
+use Rattle.graphs.proofs.Exactly.{Renumbering, saved-equal-exactly}
+use Rattle.writing.specs.words.Slice.{answer, left}
 use Rattle.writing.specs.declared.Saved.{Saved}
 use Rattle.writing.specs.declared.Saved.the-variants.{Short}
-use Rattle.saving.specs.Kept.{Table-of}
-use Rattle.demands.specs.Words.{Words, HoldsRun, SavesWords}
-use Rattle.demands.specs.Bytes.{bytes-of}
+use Rattle.saving.specs.words.Kept.{Table-of}
+use Rattle.demands.specs.words.Words.{Words, HoldsRun, SavesWords}
+use Rattle.demands.specs.words.Bytes.{bytes-of}
 
 -- a text that is written into a slice long enough stands in front of it
 pub written-bytes : (t slice : List ℕ) → length t ≤ length slice

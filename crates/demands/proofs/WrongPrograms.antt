@@ -10,17 +10,18 @@ use mathlib.Core.Option.{some}
 use native.Mathlib.Omega.{arith}
 use Rattle.tables.specs.Table.{Sofar}
 use Rattle.terms.specs.Term.{Term, definitions-of}
-use Rattle.report.specs.Process.{Event, τ, ✓, visible, Address}
-use Rattle.report.specs.Run.{State, answer}
-use Rattle.report.specs.Run as Run
-use Rattle.report.proofs.Drawing.{accepted-draws}
-use Rattle.plans.specs.Laid.{layout}
-use Rattle.runs.specs.Held.{Table, addressed, told-event, told, behind, answered}
+use Rattle.rules.specs.Process.{Event, τ, ✓, visible, Address}
+use Rattle.rules.specs.Run.{State, answer}
+use Rattle.rules.specs.Run as Run
+use Rattle.rules.proofs.Drawing.{accepted-draws}
+use Rattle.plans.specs.words.Layout.{layout}
+use Rattle.runs.specs.words.Held.{Table, addressed, told-event, told, behind}
+use Rattle.rules.specs.Addressed.{answered}
 use Rattle.runs.specs.declared.Answer.{Answer}
 use Rattle.runs.specs.declared.Answer.the-variants.{Accepted, Refused}
 use Rattle.runs.specs.declared.Shown.{Shown}
 use Rattle.runs.proofs.Once.{held-once}
-use Rattle.demands.specs.Words.{Words, HoldsRun, Steps}
+use Rattle.demands.specs.words.Words.{Words, HoldsRun, Steps}
 
 -- an event is told by one of the answer's
 told-apart : (e f : Event) → told-event e ≡ told-event f → e ≡ f

@@ -1,3 +1,2 @@
 -- `Words` is what the doors promise of a run's words, and `Bytes` what a save has left in a slice.
-pub mod Words
-pub mod Bytes
+pub mod words

@@ -10,19 +10,18 @@ use native.Mathlib.Omega.{arith}
 use Rattle.lines.specs.Line.{choose}
 use Rattle.terms.specs.Term.{Term}
 use Rattle.places.specs.Place.{Place}
-use Rattle.report.specs.Process.{Address, Process}
-use Rattle.report.specs.Track.{Pair, pair, At, Outcome, labelled, prefixed, first-eval, around, beside}
-use Rattle.report.specs.Track.{right-eval, jointly, carried, started, leads, parents, ended}
-use Rattle.report.specs.Tracking.{Tracks, process-call, prefixing, skip, stop, internal-choice-1}
-use Rattle.report.specs.Tracking.{internal-choice-2, external-choice-1, external-choice-2}
-use Rattle.report.specs.Tracking.{external-choice-3, external-choice-4, sequential-composition-1}
-use Rattle.report.specs.Tracking.{sequential-composition-2, synchronized-parallelism-1}
-use Rattle.report.specs.Tracking.{synchronized-parallelism-2, synchronized-parallelism-3}
-use Rattle.report.specs.Tracking.{synchronized-parallelism-4}
-use Rattle.report.proofs.Outward.{draws, entering-draws}
-use Rattle.report.proofs.Climbing.{Up}
-use Rattle.report.proofs.Marked.{one-same}
-use Rattle.report.proofs.Meetings.{times}
+use Rattle.rules.specs.Process.{Address, Process}
+use Rattle.rules.specs.Track.{Pair, pair, At, Outcome, labelled, prefixed, first-eval, around, beside}
+use Rattle.rules.specs.Track.{right-eval, jointly, carried, started, leads, parents, ended}
+use Rattle.rules.specs.Tracking.{Tracks, process-call, prefixing, skip, stop, internal-choice-1}
+use Rattle.rules.specs.Tracking.{internal-choice-2, external-choice-1, external-choice-2, external-choice-3}
+use Rattle.rules.specs.Tracking.{external-choice-4, sequential-composition-1, sequential-composition-2}
+use Rattle.rules.specs.Tracking.{synchronized-parallelism-1, synchronized-parallelism-2}
+use Rattle.rules.specs.Tracking.{synchronized-parallelism-3, synchronized-parallelism-4}
+use Rattle.rules.proofs.Outward.{draws, entering-draws}
+use Rattle.rules.proofs.Climbing.{Up}
+use Rattle.rules.proofs.Marked.{one-same}
+use Rattle.rules.proofs.Meetings.{times}
 
 -- both ends of each pair are below f
 abbrev pub Ends : ℕ → List Pair → Type 0

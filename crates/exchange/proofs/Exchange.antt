@@ -8,22 +8,22 @@ use mathlib.Core.List.{List, _++_}
 use native.Mathlib.Omega.{arith}
 use lib.ListN.{length}
 use Rattle.terms.specs.Term.{Term}
-use Rattle.report.specs.Process.{Event, Address, cells}
-use Rattle.report.specs.Track.{Outcome, lookup}
-use Rattle.report.specs.Tracking.{Tracks}
-use Rattle.report.specs.Run.{State, stands, after, over-room, accepted, refused, within-room, answer, Reached}
-use Rattle.report.specs.Run.{goes-on}
-use Rattle.report.proofs.Answered.{answer-named, accepted-exactly}
-use Rattle.report.proofs.Marked.{past, past-most, past-drawn, waiting, tally, tally-append, marked}
-use Rattle.report.proofs.Marked.{reached-marked}
-use Rattle.report.proofs.Meetings.{meetings-labelled}
-use Rattle.report.proofs.Holding.{reached-held}
-use Rattle.report.proofs.Climbing.{reached-climbed}
-use Rattle.tracks.specs.Graph.{graph-of}
-use Rattle.tracks.specs.Saved.{graph-text, saved}
-use Rattle.tracks.proofs.Renumbered.{Renumbers, renumbered-canonical}
-use Rattle.tracks.proofs.Renaming.{Narrow}
-use Rattle.tracks.proofs.Tracked.{run-narrow}
+use Rattle.rules.specs.Process.{Event, Address, cells}
+use Rattle.rules.specs.Track.{Outcome, lookup}
+use Rattle.rules.specs.Tracking.{Tracks}
+use Rattle.rules.specs.Run.{State, stands, after, over-room, accepted, refused, within-room, answer, Reached}
+use Rattle.rules.specs.Run.{goes-on}
+use Rattle.rules.proofs.Answered.{answer-named, accepted-exactly}
+use Rattle.rules.proofs.Marked.{past, past-most, past-drawn, waiting, tally, tally-append, marked}
+use Rattle.rules.proofs.Marked.{reached-marked}
+use Rattle.rules.proofs.Meetings.{meetings-labelled}
+use Rattle.rules.proofs.Holding.{reached-held}
+use Rattle.rules.proofs.Climbing.{reached-climbed}
+use Rattle.graphs.specs.Graph.{graph-of}
+use Rattle.graphs.specs.Saved.{graph-text, saved}
+use Rattle.graphs.proofs.Renumbered.{Renumbers, renumbered-canonical}
+use Rattle.graphs.proofs.Renaming.{Narrow}
+use Rattle.graphs.proofs.Tracked.{run-narrow}
 use Rattle.exchange.specs.Renamed.{renamed}
 use Rattle.exchange.specs.Opposite.{Opposite}
 use Rattle.exchange.proofs.References.{renamed-cells}

@@ -8,19 +8,18 @@ use mathlib.Core.Option.{Option, none, some}
 use native.Mathlib.Omega.{arith}
 use Rattle.terms.specs.Term.{Term}
 use Rattle.places.specs.Place.{Place}
-use Rattle.report.specs.Process.{Event, Address, together, Process}
-use Rattle.report.specs.Track.{Label, Pair, pair, At, Outcome, Entered, first-eval, inside, around}
-use Rattle.report.specs.Tracking.{Shows, Tracks}
-use Rattle.report.proofs.Outward.{draws}
+use Rattle.rules.specs.Process.{Event, Address, together, Process}
+use Rattle.rules.specs.Track.{Label, Pair, pair, At, Outcome, Entered, first-eval, inside, around}
+use Rattle.rules.specs.Tracking.{Shows, Tracks}
+use Rattle.rules.proofs.Outward.{draws}
 use Rattle.exchange.specs.Renamed.{renamed-side, renamed}
 use Rattle.exchange.proofs.References.{renamed-back}
 use Rattle.exchange.proofs.Ends.{Before, draws-before}
 use Rattle.exchange.proofs.RenamedSteps.{on-label, on-pair, Moves, renamed-outcome}
 use Rattle.exchange.proofs.Blocks.{block-swap, swap-below, swap-first, swap-back, swap-apart}
 use Rattle.exchange.proofs.Hands.{Hand, left, right, opposite, digit, sided, turned, sided-renamed}
-use Rattle.exchange.proofs.Hands.{by-side}
-use Rattle.exchange.proofs.Hands.{side-tracks, side-tracked, Stands, stands-below, stands-turned}
-use Rattle.exchange.proofs.Hands.{other-under}
+use Rattle.exchange.proofs.Hands.{by-side, side-tracks, side-tracked, Stands, stands-below}
+use Rattle.exchange.proofs.Hands.{stands-turned, other-under}
 use Rattle.exchange.proofs.Later.{entered-later, again, entering-later, steps-later}
 use Rattle.exchange.proofs.Swapped.{crossed, crossed-parts}
 use Rattle.exchange.proofs.Levels.{behind, EitherOrder, shows-on}

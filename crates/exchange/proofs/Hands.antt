@@ -9,11 +9,11 @@ use mathlib.Core.Option.{Option, none, some}
 use native.Mathlib.Omega.{arith}
 use Rattle.terms.specs.Term.{Term}
 use Rattle.places.specs.Place.{Place}
-use Rattle.report.specs.Process.{Event, Digit, one, two, Address, Split, together, Process, split, sequence}
-use Rattle.report.specs.Track.{At, Outcome, first-eval, inside, around}
-use Rattle.report.specs.Tracking.{Shows, Tracks, synchronized-parallelism-1, synchronized-parallelism-2}
-use Rattle.report.proofs.Marked.{past, past-drawn, next-past, Unentered, By-side, Fit, side-fit}
-use Rattle.report.proofs.Holding.{held, side-held, split-held, unentered-held}
+use Rattle.rules.specs.Process.{Event, Digit, one, two, Address, Split, together, Process, split, sequence}
+use Rattle.rules.specs.Track.{At, Outcome, first-eval, inside, around}
+use Rattle.rules.specs.Tracking.{Shows, Tracks, synchronized-parallelism-1, synchronized-parallelism-2}
+use Rattle.rules.proofs.Marked.{past, past-drawn, next-past, Unentered, By-side, Fit, side-fit}
+use Rattle.rules.proofs.Holding.{held, side-held, split-held, unentered-held}
 use Rattle.exchange.specs.Renamed.{renamed-side, renamed}
 use Rattle.exchange.proofs.References.{SideUnder, Under, Held, stands-held, held-under}
 use Rattle.exchange.proofs.Ends.{Ends, entered-ends}

@@ -12,16 +12,15 @@ use lib.Dec.{ltb}
 use borrow.Author.Tests.{ltb-true, ltb-false, ne-eqb}
 use Rattle.terms.specs.Term.{Term}
 use Rattle.places.specs.Place.{Place}
-use Rattle.report.specs.Process.{Address, Process}
-use Rattle.report.specs.Track.{Pair, pair, At, Outcome, Entered, first-eval, inside, leads, parents}
-use Rattle.report.specs.Tracking.{Tracks}
-use Rattle.report.proofs.Outward.{Outward, draws, entering-draws}
+use Rattle.rules.specs.Process.{Address, Process}
+use Rattle.rules.specs.Track.{Pair, pair, At, Outcome, Entered, first-eval, inside, leads, parents}
+use Rattle.rules.specs.Tracking.{Tracks}
+use Rattle.rules.proofs.Outward.{Outward, draws, entering-draws}
 use Rattle.exchange.specs.Renamed.{renamed-side}
 use Rattle.exchange.proofs.References.{SideUnder, Under, under-more, renamed-fixed}
 use Rattle.exchange.proofs.Ends.{Ends, Before}
 use Rattle.exchange.proofs.RenamedSteps.{on-pair, Moves, Alike, alike-append, alike-renamed}
-use Rattle.exchange.proofs.RenamedSteps.{alike-more}
-use Rattle.exchange.proofs.RenamedSteps.{renamed-outcome, tracks-renamed}
+use Rattle.exchange.proofs.RenamedSteps.{alike-more, renamed-outcome, tracks-renamed}
 
 -- pairs with both ends below f are fixed by a map that fixes what is below f
 pub pairs-fixed : (φ : ℕ → ℕ) (f : ℕ) → ((n : ℕ) → n < f → φ n ≡ n) → (g : List Pair) → Ends f g

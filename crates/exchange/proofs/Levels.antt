@@ -2,7 +2,7 @@
 -- differ by one map of references. What stands above a level keeps it: a parallel by 1 or 2 shows the same
 -- events and labels its node in the first step alone, and a sequence stays, since no side shows ✓. Assumes
 -- nothing.
-use Prim.Native.Nat.{ℕ, _+_, _≤_, _<_}
+use Prim.Native.Nat.{ℕ, _≤_, _<_}
 use mathlib.Core.Path.{_≡_, refl, sym, ap₂, subst, _∙_}
 use mathlib.Core.Bool.{Bool, true}
 use mathlib.Core.List.{List, _∷_, _++_, map, append-nil, append-assoc}
@@ -10,16 +10,16 @@ use mathlib.Core.Option.{Option, none, some}
 use native.Mathlib.Omega.{arith}
 use Rattle.terms.specs.Term.{Term}
 use Rattle.places.specs.Place.{Place}
-use Rattle.report.specs.Process.{Event, ✓, Address, together, Process, sequence}
-use Rattle.report.specs.Track.{At, Outcome, first-eval, inside, around, carried}
-use Rattle.report.specs.Tracking.{Shows, passes, hides-τ, hides-✓, Tracks, sequential-composition-1}
-use Rattle.report.proofs.Outward.{entering-draws}
+use Rattle.rules.specs.Process.{Event, ✓, Address, together, Process, sequence}
+use Rattle.rules.specs.Track.{At, Outcome, first-eval, inside, around, carried}
+use Rattle.rules.specs.Tracking.{Shows, passes, hides-τ, hides-✓, Tracks, sequential-composition-1}
+use Rattle.rules.proofs.Outward.{entering-draws}
 use Rattle.exchange.specs.Renamed.{renamed-side, renamed}
 use Rattle.exchange.proofs.References.{Under, side-fixed, renamed-fixed}
 use Rattle.exchange.proofs.RenamedSteps.{on-label, on-pair}
 use Rattle.exchange.proofs.Swapped.{Swaps, swaps-parts}
-use Rattle.exchange.proofs.Hands.{Hand, digit, sided, sided-renamed, by-side, side-tracks}
-use Rattle.exchange.proofs.Hands.{Stands, stands-below, stands-under, other-under}
+use Rattle.exchange.proofs.Hands.{Hand, digit, sided, sided-renamed, by-side, side-tracks, Stands}
+use Rattle.exchange.proofs.Hands.{stands-below, stands-under, other-under}
 
 -- where a process stands behind a step
 abbrev pub behind : At → Outcome → At

@@ -9,14 +9,13 @@ use mathlib.Core.Option.{Option}
 use mathlib.Core.Logic.{_⊎_, inl, inr}
 use Rattle.terms.specs.Term.{Term}
 use Rattle.places.specs.Place.{Place}
-use Rattle.report.specs.Process.{✓, Address, together, Process, sequence}
-use Rattle.report.specs.Track.{At, Outcome, first-eval, inside, carried}
-use Rattle.report.specs.Tracking.{Tracks, sequential-composition-1, sequential-composition-2}
+use Rattle.rules.specs.Process.{✓, Address, together, Process, sequence}
+use Rattle.rules.specs.Track.{At, Outcome, first-eval, inside, carried}
+use Rattle.rules.specs.Tracking.{Tracks, sequential-composition-1, sequential-composition-2}
 use Rattle.exchange.specs.Opposite.{Opposite, left-and-right, right-and-left, both-left, both-right}
 use Rattle.exchange.specs.Opposite.{in-sequence}
 use Rattle.exchange.proofs.Hands.{Hand, left, right, digit, sided, by-side, side-tracked, Stands}
-use Rattle.exchange.proofs.Hands.{stands-side}
-use Rattle.exchange.proofs.Hands.{stands-left}
+use Rattle.exchange.proofs.Hands.{stands-side, stands-left}
 use Rattle.exchange.proofs.Levels.{EitherOrder, exchange-beside, exchange-onward}
 use Rattle.exchange.proofs.Fork.{exchange-forked}
 

@@ -6,9 +6,9 @@ use mathlib.Core.Path.{_≡_, refl, ap}
 use mathlib.Core.Bool.{Bool}
 use mathlib.Core.Option.{Option, none, some}
 use native.Mathlib.Omega.{arith}
-use Rattle.report.specs.Process.{Process, leaf, prefix, internal, split, sequence, Ω, ⊥′, cells}
-use Rattle.report.proofs.Marked.{one-same, past, past-drawn, Unentered, By-side, Fit}
-use Rattle.report.proofs.Holding.{held, side-held, split-held}
+use Rattle.rules.specs.Process.{Process, leaf, prefix, internal, split, sequence, Ω, ⊥′, cells}
+use Rattle.rules.proofs.Marked.{one-same, past, past-drawn, Unentered, By-side, Fit}
+use Rattle.rules.proofs.Holding.{held, side-held, split-held}
 use Rattle.exchange.specs.Renamed.{renamed-side, renamed}
 
 -- a side's reference, where it has one, is below b

@@ -15,17 +15,17 @@ use borrow.Author.Tests.{eqb-true, eqb-false, eq-eqb, ne-eqb}
 use Rattle.lines.specs.Line.{choose}
 use Rattle.terms.specs.Term.{Term}
 use Rattle.places.specs.Place.{Place}
-use Rattle.report.specs.Process.{Event, Address, Process, split, rhs, Ω, ⊥′, choice, together}
-use Rattle.report.specs.Track.{Label, Pair, pair, At, Outcome, labelled, prefixed, Entered, first-eval}
-use Rattle.report.specs.Track.{inside, around, beside, right-eval, each-with, meet, jointly}
-use Rattle.report.specs.Track.{carried, started, leads, parents, ended}
-use Rattle.report.specs.Tracking.{Tracks, process-call, prefixing, skip, stop, internal-choice-1}
-use Rattle.report.specs.Tracking.{internal-choice-2, external-choice-1, external-choice-2, external-choice-3}
-use Rattle.report.specs.Tracking.{external-choice-4, sequential-composition-1, sequential-composition-2}
-use Rattle.report.specs.Tracking.{synchronized-parallelism-1, synchronized-parallelism-2}
-use Rattle.report.specs.Tracking.{synchronized-parallelism-3, synchronized-parallelism-4}
-use Rattle.report.proofs.Marked.{rhs-unentered}
-use Rattle.report.proofs.Outward.{draws, entering-draws}
+use Rattle.rules.specs.Process.{Event, Address, Process, split, rhs, Ω, ⊥′, choice, together}
+use Rattle.rules.specs.Track.{Label, Pair, pair, At, Outcome, labelled, prefixed, Entered, first-eval, inside}
+use Rattle.rules.specs.Track.{around, beside, right-eval, each-with, meet, jointly, carried, started, leads}
+use Rattle.rules.specs.Track.{parents, ended}
+use Rattle.rules.specs.Tracking.{Tracks, process-call, prefixing, skip, stop, internal-choice-1}
+use Rattle.rules.specs.Tracking.{internal-choice-2, external-choice-1, external-choice-2, external-choice-3}
+use Rattle.rules.specs.Tracking.{external-choice-4, sequential-composition-1, sequential-composition-2}
+use Rattle.rules.specs.Tracking.{synchronized-parallelism-1, synchronized-parallelism-2}
+use Rattle.rules.specs.Tracking.{synchronized-parallelism-3, synchronized-parallelism-4}
+use Rattle.rules.proofs.Marked.{rhs-unentered}
+use Rattle.rules.proofs.Outward.{draws, entering-draws}
 use Rattle.exchange.specs.Renamed.{renamed-side, renamed}
 use Rattle.exchange.proofs.References.{SideUnder, Under, unentered-under, renamed-fixed}
 

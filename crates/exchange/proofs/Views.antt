@@ -10,11 +10,11 @@ use native.Mathlib.Omega.{arith}
 use lib.Dec.{eqb}
 use Rattle.lines.specs.Line.{choose}
 use Rattle.places.specs.Place.{Place}
-use Rattle.report.specs.Track.{Label, lookup, Pair}
-use Rattle.report.proofs.Marked.{one, one-same, past, past-drawn, tally, tally-append, label-counts}
-use Rattle.tracks.specs.Graph.{joins, meets}
-use Rattle.tracks.proofs.Pairs.{joins-append}
-use Rattle.tracks.proofs.Counted.{lookup-labelled}
+use Rattle.rules.specs.Track.{Label, lookup, Pair}
+use Rattle.rules.proofs.Marked.{one, one-same, past, past-drawn, tally, tally-append, label-counts}
+use Rattle.graphs.specs.Graph.{joins, meets}
+use Rattle.graphs.proofs.Pairs.{joins-append}
+use Rattle.graphs.proofs.Counted.{lookup-labelled}
 use Rattle.exchange.proofs.RenamedSteps.{on-label, on-pair, eqb-renamed}
 use Rattle.exchange.proofs.Swapped.{Swaps}
 

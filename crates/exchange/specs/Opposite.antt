@@ -5,7 +5,7 @@ use mathlib.Core.Bool.{Bool}
 use mathlib.Core.List.{_∷_}
 use mathlib.Core.Option.{Option}
 use Rattle.places.specs.Place.{Place}
-use Rattle.report.specs.Process.{one, two, Address, together, Process, split, sequence}
+use Rattle.rules.specs.Process.{one, two, Address, together, Process, split, sequence}
 
 pub data Opposite : Address → Address → Process → Type 0 where
   left-and-right : {a b : Address} {w : Place} {x : ℕ} {m n : Option ℕ} {P Q : Process}

@@ -1,7 +1,7 @@
 -- A process with other reference numbers: the places, the choices made and the sides that were entered stay.
 use Prim.Native.Nat.{ℕ}
 use mathlib.Core.Option.{Option, none, some}
-use Rattle.report.specs.Process.{Process, leaf, prefix, internal, split, sequence, Ω, ⊥′}
+use Rattle.rules.specs.Process.{Process, leaf, prefix, internal, split, sequence, Ω, ⊥′}
 
 unfoldable pub renamed-side : (ℕ → ℕ) → Option ℕ → Option ℕ
 renamed-side φ none = none

@@ -10,9 +10,10 @@ use lib.Dec.{eqb}
 use lib.Seq.{take-all}
 use borrow.Author.Tests.{le-leb, lt-leb, eq-eqb, ne-eqb}
 use Rattle.lines.specs.Line.{choose, number, bytes}
-use Rattle.lines.specs.Code.{byteAt, numberOf}
-use Rattle.lines.proofs.Laws.{bytes-length, bytes-drop, byte-is, number-is}
-use Rattle.frames.specs.Kind.{known, payload-bytes}
+use Rattle.numbers.specs.code.Numbers.{byteAt, numberOf}
+use Rattle.lines.proofs.Laws.{bytes-length}
+use Rattle.numbers.proofs.Laws.{bytes-drop, byte-is, number-is}
+use Rattle.kinds.specs.Kind.{known, payload-bytes}
 use Rattle.frames.specs.TableFrame.{frame-of}
 use Rattle.frames.specs.declared.Frame.{Frame}
 use Rattle.frames.specs.declared.Frame.the-variants.{Opening, Definition, Term, Closing, Wrong}

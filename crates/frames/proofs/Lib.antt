@@ -1,9 +1,4 @@
 -- Laws of a table's frames: `KindLaws` of the table by kind, `Members` of a set's events, `Frames` of a
 -- line's characters as a frame, `Refusals` of the number that a frame meets, `Fine` of what is known where it
 -- meets none, and `Cursor` of what a text says at a cursor.
-pub mod KindLaws
-pub mod Members
 pub mod Frames
-pub mod Refusals
-pub mod Fine
-pub mod Cursor

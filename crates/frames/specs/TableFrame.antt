@@ -7,7 +7,7 @@ use mathlib.Core.List.{List}
 use lib.ListN.{length, getD, drop}
 use lib.Dec.{leb, ltb, eqb}
 use Rattle.lines.specs.Line.{choose, number}
-use Rattle.frames.specs.Kind.{call, prefix, parallel, known, payload-bytes}
+use Rattle.kinds.specs.Kind.{call, prefix, parallel, known, payload-bytes}
 use Rattle.frames.specs.declared.Frame.{Frame}
 use Rattle.frames.specs.declared.Frame.the-variants.{Opening, Definition, Term, Closing, Wrong}
 use Rattle.frames.specs.declared.Seen.{Seen}

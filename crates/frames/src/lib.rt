@@ -1,16 +1,15 @@
-// The frames of a table: a line at a cursor is read and judged by what the lines before it have said.
-// It relies on the line finder for where a line ends and what its bytes are.
-mod judging;
-mod kinds;
-mod reading;
-
-pub use judging::first_line;
-pub use judging::table_line;
-pub use kinds::payload_bytes;
-pub use kinds::subterms;
+// The frames of a table: what a line's characters stand for. It relies on the bytes of a line, and on the table by kind.
+use kinds::payload_bytes;
+use numbers::byte;
+use numbers::number;
 ghost use mathlib.Core.Path.{_≡_};
 ghost use Rattle.frames.specs.TableFrame as table;
-ghost use Rattle.frames.specs.Code.{stop, failure};
+ghost use mathlib.Core.List.{List};
+ghost use mathlib.Core.Option.{some};
+ghost use Prim.Native.Nat.{ℕ};
+ghost use lib.ListN.{getD};
+ghost use Rattle.lines.specs.Line.{bytes};
+ghost use Rattle.frames.specs.TableFrame.{frame-of};
 
 // A table's frame; `Wrong` stands for any bytes that are none.
 pub enum Frame {
@@ -39,21 +38,69 @@ pub struct Seen {
     pub depth: usize,
 }
 
-// What line 1 opens: a table of so many definitions and events, with the next line from `next` on, or the
-// number of its refusal.
-pub enum Opened {
-    Table {
-        definitions: usize,
-        events: usize,
-        next: usize,
-    },
-    Fails(u8),
+const OPENING: u8 = 0x10;
+
+const DEFINITION: u8 = 0x11;
+
+const TERM: u8 = 0x12;
+
+const CLOSING: u8 = 0x1f;
+
+// The frame that a line's characters stand for.
+pub fn read_frame(chars: &[u8]) -> Frame
+    ensures { λ r. ⌜ ((bs : List ℕ) → bytes (now (chars .entry)) ≡ some bs → r ≡ frame-of bs) ⌝ }
+{
+    let count = chars.len() / 2;
+    let tag = byte(chars, 0);
+    if tag == TERM {
+        return read_term(chars);
+    }
+    if tag == DEFINITION {
+        if count != 2 {
+            return Frame::Wrong;
+        }
+        return Frame::Definition(byte(chars, 1));
+    }
+    if tag == CLOSING {
+        if count != 3 {
+            return Frame::Wrong;
+        }
+        return Frame::Closing(number(&chars[2..]));
+    }
+    if tag != OPENING {
+        return Frame::Wrong;
+    }
+    if count != 4 {
+        return Frame::Wrong;
+    }
+    Frame::Opening {
+        edition: byte(chars, 1),
+        definitions: byte(chars, 2),
+        events: byte(chars, 3),
+    }
 }
 
-// What a line says: its frame, with the next line from `next` on, or the number of its refusal.
-pub enum Said {
-    Goes { frame: Frame, next: usize },
-    Stops(u8),
+// The frame of a line whose first byte is a term's.
+fn read_term(chars: &[u8]) -> Frame
+    ensures { λ r. ⌜ ((bs : List ℕ) → bytes (now (chars .entry)) ≡ some bs → getD bs 0 0 ≡ 0x12
+        → r ≡ frame-of bs) ⌝ }
+{
+    let count = chars.len() / 2;
+    let kind = byte(chars, 1);
+    if kind < 1 {
+        return Frame::Wrong;
+    }
+    if 8 < kind {
+        return Frame::Wrong;
+    }
+    let want = 2 + payload_bytes(kind) as usize;
+    if count != want {
+        return Frame::Wrong;
+    }
+    Frame::Term {
+        kind,
+        payload: number(&chars[4..]),
+    }
 }
 
 // The frame is a table's last.
@@ -64,29 +111,5 @@ pub fn closes(frame: Frame) -> bool
         true
     } else {
         false
-    }
-}
-
-// The number that a line stops with.
-pub fn stop_of(said: Said) -> u8
-    ensures { λ r. ⌜ r ≡ stop said ⌝ }
-{
-    match said {
-        Said::Goes { frame: _, next: _ } => 0,
-        Said::Stops(number) => number,
-    }
-}
-
-// The number that line 1 fails with.
-pub fn failure_of(first: Opened) -> u8
-    ensures { λ r. ⌜ r ≡ failure first ⌝ }
-{
-    match first {
-        Opened::Table {
-            definitions: _,
-            events: _,
-            next: _,
-        } => 0,
-        Opened::Fails(number) => number,
     }
 }

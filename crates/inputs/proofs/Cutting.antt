@@ -13,7 +13,7 @@ use lib.Seq.{take-nil, take-length, take-all, drop-drop, drop-cons}
 use borrow.Author.Tests.{eqb-true, eq-eqb, ne-eqb}
 use Rattle.lines.specs.Line.{choose, LF, Raw, full, open-ended, before, lines, characters}
 use Rattle.inputs.specs.Cut.{one, f, starts-1f, extent, table-length}
-use Rattle.inputs.specs.Code.{line-length}
+use Rattle.inputs.specs.code.Lengths.{line-length}
 
 -- the characters of the first of some lines
 first : List Raw → List ℕ

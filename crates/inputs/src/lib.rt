@@ -2,7 +2,7 @@
 ghost use mathlib.Core.Path.{_≡_};
 ghost use Rattle.lines.specs.Line.{lines};
 ghost use Rattle.inputs.specs.Cut.{table-length, starts-1f};
-ghost use Rattle.inputs.specs.Code.{line-length};
+ghost use Rattle.inputs.specs.code.Lengths.{line-length};
 
 const LF: u8 = 10;
 

@@ -1,7 +1,7 @@
 -- Runs of digits: what `run` counts at a place of a text, and the lines of a text that starts with
 -- a run. A digit is no LF, so a run stays inside one line; what ends the run tells whether that
 -- line is one. Assumes nothing.
-use Prim.Native.Nat.{ℕ, suc, _≤_, _<_, _-_, _+_, _*_, _%_}
+use Prim.Native.Nat.{ℕ, suc, _≤_, _<_, _+_, _*_, _%_}
 use mathlib.Core.Path.{_≡_, refl, ap, _∙_}
 use mathlib.Core.Bool.{Bool, true, false, _&&_}
 use mathlib.Core.List.{List, [], _∷_, _++_}
@@ -14,7 +14,7 @@ use lib.Seq.{drop-cons}
 use borrow.Author.Tests.{le-leb, lt-leb, leb-true, leb-false, ne-eqb, lt-ltb, ltb-true}
 use Rattle.lines.specs.Line.{choose, digit, Raw, full, open-ended, before, lines, pair, bytes, frame}
 use Rattle.lines.specs.Line.{characters, LF}
-use Rattle.lines.specs.Code.{run, value}
+use Rattle.lines.specs.code.Characters.{run}
 
 -- two tests that hold together
 pub both : (a b : Bool) → a && b ≡ true → (a ≡ true) × (b ≡ true)
@@ -42,24 +42,6 @@ digit-LF = refl
 -- a digit is no LF
 pub digit-no-LF : (c : ℕ) → digit c < 16 → eqb c LF ≡ false
 digit-no-LF c h = ne-eqb c LF (λ e. let d : digit c ≡ 16 = ap digit e ∙ digit-LF in omega arith)
-
--- what a digit counts is what arithmetic makes of it
-pub value-digit : (c : ℕ) → digit c < 16 → value c ≡ digit c
-unfolding digit
-value-digit c h = go (leb 48 c) (leb c 57) (leb 97 c) (leb c 102) refl refl refl refl h
-  where
-    letter : (p q : Bool) → leb 97 c ≡ p → leb c 102 ≡ q → choose (p && q) (c - 87) 16 < 16
-        → value c ≡ choose (p && q) (c - 87) 16
-    letter true true e₁ e₂ h = omega (arith, leb-true 97 c e₁, leb-true c 102 e₂)
-    letter true false e₁ e₂ h = absurd (omega arith)
-    letter false q e₁ e₂ h = absurd (omega arith)
-
-    go : (a b p q : Bool) → leb 48 c ≡ a → leb c 57 ≡ b → leb 97 c ≡ p → leb c 102 ≡ q
-        → choose (a && b) (c - 48) (choose (p && q) (c - 87) 16) < 16
-        → value c ≡ choose (a && b) (c - 48) (choose (p && q) (c - 87) 16)
-    go true true p q e₁ e₂ e₃ e₄ h = omega (arith, leb-true 48 c e₁, leb-true c 57 e₂)
-    go true false p q e₁ e₂ e₃ e₄ h = letter p q e₃ e₄ h
-    go false b p q e₁ e₂ e₃ e₄ h = letter p q e₃ e₄ h
 
 -- all of the characters are digits
 pub data Digits : List ℕ → Type 0 where

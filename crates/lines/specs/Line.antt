@@ -4,7 +4,7 @@ use Prim.Native.Nat.{ℕ, _+_, _-_, _*_, _/_, _%_, _<_}
 use mathlib.Core.Bool.{Bool, true, false, _&&_}
 use mathlib.Core.List.{List, [], _∷_, _++_}
 use mathlib.Core.Option.{Option, none, some}
-use lib.ListN.{length}
+use lib.ListN.{length, take, drop}
 use lib.Dec.{leb, ltb, eqb}
 use Rattle.lines.specs.declared.Line.{Line}
 use Rattle.lines.specs.declared.Line.the-variants.{Found, NoLine, End}
@@ -68,6 +68,10 @@ number-from n (b ∷ bs) = number-from (n * 256 + b) bs
 -- a number of several bytes
 abbrev pub number : List ℕ → ℕ
 number bs = number-from 0 bs
+
+-- the number of two bytes from byte k on
+abbrev pub number-at : ℕ → List ℕ → ℕ
+number-at k bs = number (take 2 (drop k bs))
 
 -- a number as two bytes
 unfoldable pub two : ℕ → List ℕ

@@ -4,11 +4,9 @@ ghost use mathlib.Core.Path.{_≡_};
 ghost use Prim.Native.Nat.{_+_, _≤_};
 ghost use lib.ListN.{length, drop};
 ghost use Rattle.lines.specs.Line.{digit, lines, answer, refusal};
-ghost use Rattle.lines.specs.Code.{run, part, value, byteOf, byteAt, numberOf};
+ghost use Rattle.lines.specs.code.Characters.{run, part};
 
 const LF: u8 = 10;
-
-const LOW_56_BITS: u64 = 72057594037927936;
 
 // What stands at a cursor: a line, whose characters run from the cursor up to `end`, with the next line from
 // `next` on; something that is no line; or the end of the text.
@@ -100,42 +98,4 @@ fn digit_value(c: u8) -> u8
         return c - 87;
     }
     16
-}
-
-// Byte number k of a line's characters, 0 where they have no such byte.
-pub fn byte(chars: &[u8], k: usize) -> u8
-    ensures { λ r. ⌜ r ≡ byteAt (now (chars .entry)) k ⌝ }
-{
-    if chars.len() / 2 <= k {
-        return 0;
-    }
-    byte_of(chars[2 * k], chars[2 * k + 1])
-}
-
-// The number that all the characters' bytes make, high byte first.
-pub fn number(chars: &[u8]) -> u64
-    ensures { λ r. ⌜ r ≡ numberOf 0 (now (chars .entry)) ⌝ }
-{
-    let n = chars.len() / 2;
-    let mut number: u64 = 0;
-    let mut k = 0;
-    while k < n {
-        number = number % LOW_56_BITS * 256 + byte_of(chars[2 * k], chars[2 * k + 1]) as u64;
-        k += 1;
-    }
-    number
-}
-
-// The byte of two characters that are digits.
-fn byte_of(high: u8, low: u8) -> u8
-    ensures { λ r. ⌜ r ≡ byteOf high low ⌝ }
-{
-    value_of(high) % 16 * 16 + value_of(low) % 16
-}
-
-// What a digit counts, with no test.
-fn value_of(c: u8) -> u8
-    ensures { λ r. ⌜ r ≡ value c ⌝ }
-{
-    c % 16 + c / 64 * 9
 }

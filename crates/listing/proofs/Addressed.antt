@@ -9,9 +9,9 @@ use lib.ListN.{length, getD, List·getD-append}
 use lib.Seq.{sets, sets-eq}
 use borrow.Author.Tests.{lt-ltb}
 use Rattle.scripts.specs.Script.{most}
-use Rattle.weighing.specs.Looking.{digit-at}
-use Rattle.runs.specs.Held.{digit-of, with-digit, address-from, addressed}
-use Rattle.listing.specs.Listing.{address-of}
+use Rattle.looking.specs.code.Looking.{digit-at}
+use Rattle.rules.specs.Addressed.{digit-of, with-digit, address-of}
+use Rattle.runs.specs.words.Held.{address-from, addressed}
 
 -- the digits from a place on, by what each of them is
 digits-read : (es : List ℕ) (count : ℕ) (vs : List ℕ) (at : ℕ)

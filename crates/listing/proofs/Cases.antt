@@ -1,37 +1,36 @@
 -- Document 01's cases A to H, K and M, from input to output, by computation: one table, and one statement over
 -- it and over further inputs that are refused. A text is written as document 01 writes its case A, with `/` for
 -- LF. Case A is document 01's own text; every other output comes from the independent program. Assumes nothing.
-use Prim.Native.Nat.{ℕ}
 use Prim.Native.String.{String, _++_}
 use mathlib.Core.Path.{_≡_, refl}
 use mathlib.Core.List.{List, [], _∷_, map, _++_ as _++ᴸ_}
-use Rattle.lines.specs.Line.{digit, before, lines, pair, bytes, frame, characters, number-from, character, hex}
-use Rattle.lines.specs.Line.{text, two}
+use Rattle.lines.specs.Line.{digit, before, lines, pair, bytes, frame, characters, number-from, character}
+use Rattle.lines.specs.Line.{hex, text, two}
 use Rattle.lines.proofs.Typed.{typed}
 use Rattle.scripts.specs.Script.{well-formed, all-digits, in-range, asked}
-use Rattle.frames.specs.Kind.{known, payload-bytes, subterms}
-use Rattle.frames.specs.EventSet.{member}
+use Rattle.kinds.specs.Kind.{known, payload-bytes, subterms}
+use Rattle.sets.specs.EventSet.{member}
 use Rattle.frames.specs.TableFrame.{frame-of, limit, longest, refusal, first-refusal, closes}
 use Rattle.tables.specs.Table.{next-due, seen, taken, held, verdict, behind, rest, from-first, judged}
 use Rattle.terms.specs.Term.{leaf-of, operator-of, grown, trees}
 use Rattle.places.specs.Place.{begins, under}
-use Rattle.report.specs.Process.{joined, untouched, right-side, cells}
-use Rattle.report.specs.Track.{lookup, labelled, prefixed, first-eval, around, each-with, meet, jointly}
-use Rattle.report.specs.Track.{carried, started, leads, parents, ended}
-use Rattle.report.specs.Step.{one-side, by-side, same, both-sides, with-right, in-sequence, by-left, at-Ω}
-use Rattle.report.specs.Step.{then, step}
-use Rattle.report.specs.Run.{after, over-room, whole, answer}
-use Rattle.report.specs.Run as Run
-use Rattle.report.specs.Offers.{leaf-offers, offers-✓, offers-τ, offers-event, offers-some, status}
-use Rattle.runs.specs.Held.{digit-of, with-digit, answered}
-use Rattle.tracks.specs.Graph.{present, keep, heads, on-side, next, joins}
-use Rattle.tracks.specs.Walk.{among, walk, order}
-use Rattle.tracks.specs.Saved.{placed, numbered, row, rows, rows-up, canonical, opening-frame, node-frame}
-use Rattle.tracks.specs.Saved.{pair-frame, frames}
+use Rattle.rules.specs.Process.{joined, untouched, right-side, cells}
+use Rattle.rules.specs.Track.{lookup, labelled, prefixed, first-eval, around, each-with, meet, jointly}
+use Rattle.rules.specs.Track.{carried, started, leads, parents, ended}
+use Rattle.rules.specs.Step.{one-side, by-side, same, both-sides, with-right, in-sequence, by-left, at-Ω}
+use Rattle.rules.specs.Step.{then, step}
+use Rattle.rules.specs.Run.{after, over-room, whole, answer}
+use Rattle.rules.specs.Run as Run
+use Rattle.rules.specs.Offers.{leaf-offers, offers-✓, offers-τ, offers-event, offers-some, status}
+use Rattle.rules.specs.Addressed.{digit-of, with-digit, answered, address-of}
+use Rattle.graphs.specs.Graph.{present, keep, heads, on-side, next, joins}
+use Rattle.graphs.specs.Walk.{among, walk, order}
+use Rattle.graphs.specs.Saved.{placed, numbered, row, rows, rows-up, canonical, opening-frame, node-frame}
+use Rattle.graphs.specs.Saved.{pair-frame, frames}
 use Rattle.inputs.specs.Cut.{starts-1f, extent, table-length, table-text, script-text}
-use Rattle.listing.specs.Listing.{step-frame, status-frame, refusal-frame, address-of, line-answer}
-use Rattle.listing.specs.Listing.{goes-on, played, end-frames, within-room, run-listing, table-listing}
-use Rattle.listing.specs.Listing.{listing}
+use Rattle.telling.specs.ListingFrame.{step-frame, status-frame, refusal-frame}
+use Rattle.listing.specs.Listing.{line-answer, goes-on, played, end-frames, within-room, run-listing}
+use Rattle.listing.specs.Listing.{table-listing, listing}
 
 -- an input, and the output that it has to give
 pub record Case : Type 0 where

@@ -13,26 +13,27 @@ use lib.Dec.{leb}
 use lib.Seq.{sets, sets-eq, length-sets, take-append-seam}
 use borrow.Author.Tests.{le-leb, leb-true}
 use Rattle.lines.specs.Line.{choose, LF, Raw, full, open-ended, lines, bytes, frame, text, two}
-use Rattle.lines.specs.Code.{part}
+use Rattle.lines.specs.code.Characters.{part}
 use Rattle.lines.proofs.Laws.{lines-first, bytes-length}
 use Rattle.scripts.specs.Script.{Asked, address, refused, asked}
-use Rattle.scripts.specs.Code.{refusal}
+use Rattle.scripts.specs.code.Answers.{refusal}
 use Rattle.scripts.proofs.Steps.{is-step}
 use Rattle.tables.specs.Table.{Judged, judged}
 use Rattle.tables.specs.Table as Table
 use Rattle.terms.specs.Term.{Term, definitions-of}
-use Rattle.report.specs.Process.{Event, τ, ✓, visible}
-use Rattle.report.specs.Run.{State, start, Answer, accepted}
-use Rattle.report.specs.Run as Run
-use Rattle.report.specs.Offers.{Status, live, ended, stuck, status}
-use Rattle.tracks.specs.Graph.{graph-of}
-use Rattle.tracks.specs.Saved.{saved}
-use Rattle.tracks.proofs.Spelled.{line-length}
+use Rattle.rules.specs.Process.{Event, τ, ✓, visible}
+use Rattle.rules.specs.Run.{State, start, Answer, accepted}
+use Rattle.rules.specs.Run as Run
+use Rattle.rules.specs.Offers.{Status, live, ended, stuck, status}
+use Rattle.graphs.specs.Graph.{graph-of}
+use Rattle.graphs.specs.Saved.{saved}
+use Rattle.graphs.proofs.Spelled.{line-length}
 use Rattle.spelling.proofs.Spelt.{text-append}
 use Rattle.inputs.specs.Cut.{table-text, script-text}
-use Rattle.listing.specs.Listing.{step-frame, status-frame, refusal-frame, line-answer, goes-on, played}
-use Rattle.listing.specs.Listing.{Played, End, played-out, refused-at, script-room, save-room, end-frames}
-use Rattle.listing.specs.Listing.{alone, within-room, run-listing, table-listing, listing}
+use Rattle.telling.specs.ListingFrame.{step-frame, status-frame, refusal-frame, alone}
+use Rattle.listing.specs.Listing.{line-answer, goes-on, played, Played, End, played-out, refused-at}
+use Rattle.listing.specs.Listing.{script-room, save-room, end-frames, within-room, run-listing}
+use Rattle.listing.specs.Listing.{table-listing, listing}
 
 -- the frames of a step, a status and a refusal
 step-long : (e : Event) → length (step-frame e) ≤ 3

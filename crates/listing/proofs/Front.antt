@@ -15,7 +15,8 @@ use Rattle.lines.specs.Line.{lines}
 use Rattle.tables.specs.Table.{Judged, accepted, refused, text-room, judged}
 use Rattle.inputs.specs.Cut.{table-length, table-text, script-text}
 use Rattle.inputs.proofs.Cutting.{table-within, cut-front}
-use Rattle.listing.specs.Listing.{script-room, alone, table-listing, listing}
+use Rattle.listing.specs.Listing.{script-room, table-listing, listing}
+use Rattle.telling.specs.ListingFrame.{alone}
 
 -- a table's text over its room is told alone
 long-table : (input : List ℕ) → text-room < table-length (lines input) → listing input ≡ alone 6 0

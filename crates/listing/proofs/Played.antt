@@ -13,19 +13,22 @@ use lib.Seq.{sets, length-sets}
 use borrow.Author.Tests.{leb-true}
 use Rattle.lines.specs.Line.{choose, Raw, frame, text}
 use Rattle.lines.proofs.Digits.{both}
-use Rattle.scripts.specs.Script.{most, digits, well-formed, all-digits, in-range, Asked, address, asked, digits-of}
+use Rattle.scripts.specs.Script.{most, digits, well-formed, all-digits, in-range, Asked, address, asked}
+use Rattle.scripts.specs.Script.{digits-of}
 use Rattle.scripts.specs.Script as Script
 use Rattle.terms.specs.Term.{Term}
-use Rattle.report.specs.Process.{Event, Address}
-use Rattle.report.specs.Step.{Stepped, step}
-use Rattle.report.specs.Run.{State, stands, over-room, Answer, accepted, refused}
-use Rattle.report.specs.Run as Run
-use Rattle.plans.specs.Plan.{Layout}
-use Rattle.runs.specs.Held.{Table, Holds, told-event, told, behind, answered}
-use Rattle.runs.specs.Code as run
+use Rattle.rules.specs.Process.{Event, Address}
+use Rattle.rules.specs.Step.{Stepped, step}
+use Rattle.rules.specs.Run.{State, stands, over-room, Answer, accepted, refused}
+use Rattle.rules.specs.Run as Run
+use Rattle.plans.specs.words.Plan.{Layout}
+use Rattle.runs.specs.words.Held.{Table, Holds, told-event, told, behind}
+use Rattle.rules.specs.Addressed.{answered}
+use Rattle.runs.specs.code.Doors as run
+use Rattle.playing.specs.code.Playing as plays
 use Rattle.runs.proofs.Answering.{step-answered, step-holds}
 use Rattle.listing.specs.Listing.{Played, end-frames, line-answer, goes-on, played}
-use Rattle.listing.specs.Code.{Stopped, stops, in-front, by-played, stepped, stop-text}
+use Rattle.listing.specs.code.Told.{Stopped, stops, in-front, by-played, stepped, stop-text}
 use Rattle.listing.proofs.Addressed.{digits-addressed}
 use Rattle.listing.proofs.Lines.{stop-told}
 
@@ -75,8 +78,8 @@ address-numbered ts s (some a) = step-numbered s (step ts (s .process) (stands s
 
 module _ (l : Layout) (p x : List ℕ) (ts : List Term) where
   -- a line whose answer is document 01's, with words that hold the state behind it
-  record Answers (s : State) (next : ℕ) (z : run.Line-played) (o : Answer) : Type 0 where
-    pub played-is : z .played ≡ run.of-answer next (told o)
+  record Answers (s : State) (next : ℕ) (z : plays.Line-played) (o : Answer) : Type 0 where
+    pub played-is : z .played ≡ plays.of-answer next (told o)
     pub numbered : Numbered o
     pub holds : Holds l p x ts (z .nodes) (z .track) (z .counters) (behind s o)
 
@@ -87,10 +90,10 @@ module _ (l : Layout) (p x : List ℕ) (ts : List Term) where
     pub holds : Holds l p x ts (z .nodes) (z .track) (z .counters) (r .state)
 
   -- by a line's answer: a step goes on, and a refusal stops
-  line-agrees : (s : State) (next n : ℕ) (z : run.Line-played) (o : Answer) → Answers s next z o
+  line-agrees : (s : State) (next n : ℕ) (z : plays.Line-played) (o : Answer) → Answers s next z o
       → (rest : Stopped) (then : State → Played) → Agrees rest (then (behind s o))
       → Agrees (by-played n z rest (z .played)) (goes-on s n then o)
-  unfolding goes-on by-played in-front stops told behind run.of-answer end-frames
+  unfolding goes-on by-played in-front stops told behind plays.of-answer end-frames
   line-agrees s next n z (accepted e t) answers rest then agrees =
       rw (answers .played-is)
       (record {
@@ -106,13 +109,13 @@ module _ (l : Layout) (p x : List ℕ) (ts : List Term) where
     -- a line's answer is its own refusal, or that of its address
     line-answers : (w g c : List ℕ) (s : State) → Holds l p x ts w g c s → (ds : List ℕ) → length ds ≡ most
         → (next : ℕ) (a : Asked) → Sound a
-        → Answers s next (run.by-line p x w g c (Script.told next a) (sets ds 0 (digits-of a))) (line-answer ts s a)
-    unfolding run.by-line run.step-played run.of-answer Script.told digits-of line-answer told behind
+        → Answers s next (plays.by-line p x w g c (Script.told next a) (sets ds 0 (digits-of a))) (line-answer ts s a)
+    unfolding plays.by-line plays.step-played plays.of-answer Script.told digits-of line-answer told behind
     line-answers w g c s held ds long next (address vs) few =
         rw (← digits-addressed ds vs (omega arith) few)
         (record {
           played-is =
-              ap (run.of-answer next) (step-answered l p x ts (length vs) (sets ds 0 vs) table w g c s held);
+              ap (plays.of-answer next) (step-answered l p x ts (length vs) (sets ds 0 vs) table w g c s held);
           numbered = address-numbered ts s _;
           holds = step-holds l p x ts (length vs) (sets ds 0 vs) table w g c s held;
         })
@@ -122,7 +125,7 @@ module _ (l : Layout) (p x : List ℕ) (ts : List Term) where
     -- the lines of a script, from any state
     pub stepped-agrees : (ls : List Raw) (n : ℕ) (ds : List ℕ) → length ds ≡ most → (w g c : List ℕ) (s : State)
         → Holds l p x ts w g c s → Agrees (stepped p x n ls ds w g c) (played ts s n ls)
-    unfolding text stepped played stops stop-text end-frames run.played run.by-line Script.answer Script.left
+    unfolding text stepped played stops stop-text end-frames plays.played plays.by-line Script.answer Script.left
     stepped-agrees [] n ds long w g c s held = record { events-are = refl; stop-is = refl; holds = held }
     stepped-agrees (k ∷ ls) n ds long w g c s held =
         let answers = line-answers w g c s held ds long _ (asked (frame k)) (asked-sound (frame k)) in

@@ -17,22 +17,23 @@ use Rattle.scripts.specs.Script.{Asked, address, refused, asked, left}
 use Rattle.scripts.specs.Script as Script
 use Rattle.control.specs.declared.Event.{Event}
 use Rattle.control.specs.declared.Event.the-variants.{Tau, Tick, Visible}
-use Rattle.runs.specs.Code as run
+use Rattle.runs.specs.code.Doors as run
+use Rattle.playing.specs.code.Playing as plays
 use Rattle.runs.specs.declared.Answer.{Answer}
 use Rattle.runs.specs.declared.Answer.the-variants.{Accepted}
 use Rattle.runs.specs.declared.Answer.the-variants as Answers
-use Rattle.runs.specs.declared.Played.{Played}
-use Rattle.runs.specs.declared.Played.the-variants.{Stepped, Refused, End}
-use Rattle.runs.proofs.Played.{enum}
+use Rattle.playing.specs.declared.Played.{Played}
+use Rattle.playing.specs.declared.Played.the-variants.{Stepped, Refused, End}
+use Rattle.playing.proofs.Played.{enum}
 use Rattle.spelling.specs.Puts.{Puts}
 use Rattle.spelling.proofs.Putting.{puts-then}
 use Rattle.spelling.proofs.Spelt.{text-append}
 use Rattle.listing.specs.Listing.{script-room}
-use Rattle.listing.specs.Code.{shown-step, Stopped, number-of, stops, in-front, by-played, stepped}
-use Rattle.listing.specs.Code.{from-words}
+use Rattle.telling.specs.code.Shown.{shown-step}
+use Rattle.listing.specs.code.Told.{Stopped, number-of, stops, in-front, by-played, stepped, from-words}
 
 -- two lines that come to the same but for where the next one begins
-record Alike (y z : run.Line-played) : Type 0 where
+record Alike (y z : plays.Line-played) : Type 0 where
   same-nodes : y .nodes ≡ z .nodes
   same-track : y .track ≡ z .track
   same-counters : y .counters ≡ z .counters
@@ -43,7 +44,7 @@ abbrev pub Other : Played → Type 0
 Other r = (tagOf (declared enum) r ≡ 1) ⊎ (tagOf (declared enum) r ≡ 2)
 
 -- such a line stops
-by-other : (n : ℕ) (z : run.Line-played) (rest : Stopped) (r : Played) → Other r
+by-other : (n : ℕ) (z : plays.Line-played) (rest : Stopped) (r : Played) → Other r
     → by-played n z rest r ≡ stops (number-of r) n z
 unfolding by-played number-of
 by-other n z rest (Stepped e next) h = ⊎-elim (λ t. absurd (omega arith)) (λ t. absurd (omega arith)) h
@@ -53,15 +54,15 @@ by-other n z rest End h = refl
 -- where a line stands enters only where the next one begins, and a step tells that
 module _ (p x w g c : List ℕ) where
   answer-anywhere : (m k n : ℕ) (s : run.Stepped) (rest : Stopped) (a : Answer)
-      → by-played n (run.step-played p x w g c m s) rest (run.of-answer m a)
-      ≡ by-played n (run.step-played p x w g c k s) rest (run.of-answer k a)
-  unfolding by-played run.of-answer run.step-played stops
+      → by-played n (plays.step-played p x w g c m s) rest (plays.of-answer m a)
+      ≡ by-played n (plays.step-played p x w g c k s) rest (plays.of-answer k a)
+  unfolding by-played plays.of-answer plays.step-played stops
   answer-anywhere m k n s rest (Accepted e) = refl
   answer-anywhere m k n s rest (Answers.Refused r) = refl
 
   asked-anywhere : (m k : ℕ) (a : Asked) (ds : List ℕ)
-      → Alike (run.by-line p x w g c (Script.told m a) ds) (run.by-line p x w g c (Script.told k a) ds)
-  unfolding Script.told run.by-line run.step-played
+      → Alike (plays.by-line p x w g c (Script.told m a) ds) (plays.by-line p x w g c (Script.told k a) ds)
+  unfolding Script.told plays.by-line plays.step-played
   asked-anywhere m k (address es) ds =
       let s = run.stepped p x (length es) ds w g c in
       record {
@@ -73,14 +74,14 @@ module _ (p x w g c : List ℕ) where
   asked-anywhere m k (refused r) ds =
       record { same-nodes = refl; same-track = refl; same-counters = refl; goes = λ n rest. refl }
 
-  answer-next : (m : ℕ) (a : Answer) (e : Event) (next : ℕ) → run.of-answer m a ≡ Stepped e next → m ≡ next
-  unfolding run.of-answer
+  answer-next : (m : ℕ) (a : Answer) (e : Event) (next : ℕ) → plays.of-answer m a ≡ Stepped e next → m ≡ next
+  unfolding plays.of-answer
   answer-next m (Accepted s) e next h = cc
   answer-next m (Answers.Refused r) e next h = let z : _≡_ {A = ℕ} 0 1 = cc in absurd (omega arith)
 
   asked-next : (m : ℕ) (a : Asked) (ds : List ℕ) (e : Event) (next : ℕ)
-      → run.by-line p x w g c (Script.told m a) ds .played ≡ Stepped e next → m ≡ next
-  unfolding Script.told run.by-line run.step-played
+      → plays.by-line p x w g c (Script.told m a) ds .played ≡ Stepped e next → m ≡ next
+  unfolding Script.told plays.by-line plays.step-played
   asked-next m (address es) ds e next h =
       answer-next m (run.stepped p x (length es) ds w g c .answer) e next h
   asked-next m (refused r) ds e next h = let z : _≡_ {A = ℕ} 0 1 = cc in absurd (omega arith)
@@ -88,8 +89,8 @@ module _ (p x w g c : List ℕ) where
 -- some lines from `at` on
 module _ (p x w g c : List ℕ) (at : ℕ) where
   -- the first of them, and what those behind it come to
-  abbrev first : List Raw → List ℕ → run.Line-played
-  first ls ds = run.played p x w g c at ls ds
+  abbrev first : List Raw → List ℕ → plays.Line-played
+  first ls ds = plays.played p x w g c at ls ds
 
   abbrev further : ℕ → List Raw → List ℕ → List Raw → Stopped
   further n ls ds more =
@@ -98,8 +99,8 @@ module _ (p x w g c : List ℕ) (at : ℕ) where
 
   -- a line comes to the same wherever it stands
   played-anywhere : (l : Raw) (ls : List Raw) (ds : List ℕ)
-      → Alike (first (l ∷ ls) ds) (run.played p x w g c 0 (l ∷ ls) ds)
-  unfolding run.played Script.answer
+      → Alike (first (l ∷ ls) ds) (plays.played p x w g c 0 (l ∷ ls) ds)
+  unfolding plays.played Script.answer
   played-anywhere l ls ds =
       let n = length (characters l) in
       asked-anywhere p x w g c (at + n + 1) (0 + n + 1) (asked (frame l)) (sets ds 0 (left (l ∷ ls)))
@@ -116,14 +117,14 @@ module _ (p x w g c : List ℕ) (at : ℕ) where
   -- they stop at one that is no step
   lines-stop : (n : ℕ) (ls : List Raw) (ds : List ℕ) → Other (first ls ds .played)
       → stepped p x n ls ds w g c ≡ stops (number-of (first ls ds .played)) n (first ls ds)
-  unfolding stepped run.played Script.answer run.by-line number-of
+  unfolding stepped plays.played Script.answer plays.by-line number-of
   lines-stop n [] ds h = refl
   lines-stop n (l ∷ ls) ds h = stepped-first n l ls ds ∙ by-other n _ _ _ h
 
   -- a step is a line, as the line finder has it
   step-found : (ls : List Raw) (ds : List ℕ) (e : Event) (next : ℕ) → first ls ds .played ≡ Stepped e next
       → (end : ℕ) × (Line.answer at ls ≡ Found end next)
-  unfolding run.played Script.answer Script.told run.by-line Line.answer Line.seen asked
+  unfolding plays.played Script.answer Script.told plays.by-line Line.answer Line.seen asked
   step-found [] ds e next h = let z : _≡_ {A = ℕ} 0 1 = cc in absurd (omega arith)
   step-found (l ∷ ls) ds e next h = go (frame l) h
     where
@@ -131,7 +132,7 @@ module _ (p x w g c : List ℕ) (at : ℕ) where
       end = at + length (characters l)
 
       go : (o : Option (List ℕ))
-          → run.by-line p x w g c (Script.told (end + 1) (asked o)) (sets ds 0 (left (l ∷ ls))) .played
+          → plays.by-line p x w g c (Script.told (end + 1) (asked o)) (sets ds 0 (left (l ∷ ls))) .played
           ≡ Stepped e next
           → (m : ℕ) × (Line.seen at (characters l) o ≡ Found m next)
       go none h = let z : _≡_ {A = ℕ} 0 1 = cc in absurd (omega arith)
@@ -219,7 +220,7 @@ module _ {p x script w₀ g₀ c₀ out₀ w g c out ds : List ℕ} {at line end
   going-length = ap length (now .put .stands) ∙ length-sets out₀ 0 (text (map shown-step (now .done)))
 
   -- what the line at the cursor comes to, with the digits then
-  abbrev here : run.Line-played
+  abbrev here : plays.Line-played
   here = first p x w g c at (lines (drop at script)) ds
 
   abbrev pub Behind : Played → List ℕ → List ℕ → List ℕ → List ℕ → Type 0

@@ -9,34 +9,36 @@ use lib.Dec.{leb}
 use Rattle.lines.specs.Line.{choose, lines, text}
 use Rattle.scripts.specs.Script.{most}
 use Rattle.tables.specs.Table.{Sofar, accepted, judged}
-use Rattle.tables.specs.Columns.{kinds, payloads, owners, afters, roots}
+use Rattle.tables.specs.words.Columns.{kinds, payloads, owners, afters, roots}
 use Rattle.terms.specs.Term.{Term, definitions-of}
 use Rattle.terms.proofs.Trees.{each-at, checked-trees}
-use Rattle.report.specs.Process.{Event, τ, ✓, visible}
-use Rattle.report.specs.Run.{State, start, Reached}
-use Rattle.report.specs.Offers as Report
-use Rattle.report.proofs.Stuck.{among-offers}
-use Rattle.report.proofs.Ranged.{reached-ranged, ranged-among}
-use Rattle.plans.specs.Laid.{laid-out, layout}
+use Rattle.rules.specs.Process.{Event, τ, ✓, visible}
+use Rattle.rules.specs.Run.{State, start, Reached}
+use Rattle.rules.specs.Offers as Report
+use Rattle.rules.proofs.Stuck.{among-offers}
+use Rattle.rules.proofs.Ranged.{reached-ranged, ranged-among}
+use Rattle.plans.specs.code.Laid.{laid-out}
+use Rattle.plans.specs.words.Layout.{layout}
 use Rattle.plans.proofs.LaidRooms.{layout-low}
-use Rattle.offers.specs.Code.{status}
-use Rattle.offers.specs.Told.{Covers, status-of}
+use Rattle.offers.specs.code.Offering.{status}
+use Rattle.offers.specs.words.Told.{Covers, status-of}
 use Rattle.offers.specs.declared.Status.{Status}
 use Rattle.offers.specs.declared.Status.the-variants.{Live, Ended, Stuck}
 use Rattle.offers.proofs.Runs.{run-status}
-use Rattle.runs.specs.Counting.{reference}
-use Rattle.runs.specs.Held.{Holds, told-event}
+use Rattle.counting.specs.code.Counting.{reference}
+use Rattle.runs.specs.words.Held.{Holds, told-event}
 use Rattle.runs.proofs.Starting.{start-holds}
 use Rattle.runs.proofs.Tabled.{checked-table}
-use Rattle.tracks.specs.Graph.{graph-of}
-use Rattle.tracks.specs.Saved.{saved}
-use Rattle.saving.specs.Code.{text-of}
+use Rattle.graphs.specs.Graph.{graph-of}
+use Rattle.graphs.specs.Saved.{saved}
+use Rattle.saving.specs.code.Saving.{text-of}
 use Rattle.saving.proofs.SavedTold.{saves-told}
 use Rattle.spelling.proofs.Spelt.{text-append}
-use Rattle.listing.specs.Listing.{step-frame, status-frame, end-frames, Played, played, script-room, alone}
-use Rattle.listing.specs.Listing.{within-room, run-listing, table-listing}
-use Rattle.listing.specs.Code.{shown-step, shown-status, Stopped, from-start, stopped-text, run-text}
-use Rattle.listing.specs.Code.{script-text}
+use Rattle.telling.specs.ListingFrame.{step-frame, status-frame, alone}
+use Rattle.listing.specs.Listing.{end-frames, Played, played, script-room, within-room, run-listing}
+use Rattle.listing.specs.Listing.{table-listing}
+use Rattle.telling.specs.code.Shown.{shown-step, shown-status}
+use Rattle.listing.specs.code.Told.{Stopped, from-start, stopped-text, run-text, script-text}
 use Rattle.listing.proofs.Played.{Agrees, stepped-agrees}
 
 -- steps are shown by the answers' events as by their own

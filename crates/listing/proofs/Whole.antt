@@ -9,25 +9,27 @@ use lib.Seq.{sets, take-all}
 use borrow.Author.Tests.{le-leb, lt-leb}
 use Rattle.lines.specs.Line.{lines, text, hex, two}
 use Rattle.tables.specs.Table.{Judged, accepted, refused, judged}
-use Rattle.tables.specs.Columns.{answer, left, kinds, payloads, owners, afters, roots}
+use Rattle.tables.specs.words.Columns.{answer, left, kinds, payloads, owners, afters, roots}
 use Rattle.tables.specs.declared.Counts.{Counts}
 use Rattle.tables.specs.declared.Checked.{Checked}
 use Rattle.tables.specs.declared.Checked.the-variants.{Accepted, Refused}
 use Rattle.tables.proofs.Whole.{answer-refuses, answer-accepts}
-use Rattle.plans.specs.Laid.{laid-out}
-use Rattle.offers.specs.Code.{status}
+use Rattle.plans.specs.code.Laid.{laid-out}
+use Rattle.offers.specs.code.Offering.{status}
 use Rattle.offers.specs.declared.Status.{Status}
 use Rattle.offers.specs.declared.Status.the-variants.{Live, Ended, Stuck}
-use Rattle.runs.specs.Code.{fresh-nodes, fresh-track, fresh-counters}
-use Rattle.runs.specs.Held.{Begins}
-use Rattle.saving.specs.Code.{text-of}
+use Rattle.runs.specs.code.Doors.{fresh-nodes, fresh-track, fresh-counters}
+use Rattle.runs.specs.words.Held.{Begins}
+use Rattle.saving.specs.code.Saving.{text-of}
 use Rattle.inputs.specs.Cut.{table-length, table-text}
 use Rattle.inputs.specs.Cut as Cut
 use Rattle.spelling.specs.Puts.{Puts}
 use Rattle.spelling.proofs.Putting.{puts-then}
-use Rattle.listing.specs.Listing.{refusal-frame, script-room, alone, within-room, table-listing, listing}
-use Rattle.listing.specs.Code.{shown-step, shown-status, Stopped, from-words, from-start, stop-text}
-use Rattle.listing.specs.Code.{stopped-text, run-text, script-text}
+use Rattle.telling.specs.ListingFrame.{refusal-frame, alone}
+use Rattle.listing.specs.Listing.{script-room, within-room, table-listing, listing}
+use Rattle.telling.specs.code.Shown.{shown-step, shown-status}
+use Rattle.listing.specs.code.Told.{Stopped, from-words, from-start, stop-text, stopped-text, run-text}
+use Rattle.listing.specs.code.Told.{script-text}
 use Rattle.listing.proofs.Stepping.{StepsPut}
 use Rattle.listing.proofs.Told.{script-listed}
 

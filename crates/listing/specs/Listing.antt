@@ -1,38 +1,22 @@
 -- Document 01, 'The program's listing': what the tracking program prints for an input, from bytes to bytes.
 use Prim.Native.Nat.{ℕ, _+_}
 use mathlib.Core.List.{List, [], _∷_, _++_, map}
-use mathlib.Core.Option.{Option, some}
 use lib.ListN.{length}
 use lib.Dec.{leb}
-use Rattle.lines.specs.Line.{choose, Raw, frame, lines, text, two}
+use Rattle.lines.specs.Line.{choose, Raw, frame, lines, text}
 use Rattle.scripts.specs.Script.{Asked, address, asked}
 use Rattle.scripts.specs.Script as Script
 use Rattle.tables.specs.Table.{Judged, accepted, refused, judged}
 use Rattle.terms.specs.Term.{Term, definitions-of}
-use Rattle.report.specs.Process.{Event, τ, ✓, visible, Address}
-use Rattle.report.specs.Run.{State, start, Answer}
-use Rattle.report.specs.Run as Run
-use Rattle.report.specs.Offers.{Status, live, ended, stuck, status}
-use Rattle.runs.specs.Held.{digit-of, with-digit, answered}
-use Rattle.tracks.specs.Graph.{graph-of}
-use Rattle.tracks.specs.Saved.{saved}
+use Rattle.rules.specs.Process.{Event}
+use Rattle.rules.specs.Run.{State, start, Answer}
+use Rattle.rules.specs.Run as Run
+use Rattle.rules.specs.Offers.{status}
+use Rattle.rules.specs.Addressed.{address-of, answered}
+use Rattle.graphs.specs.Graph.{graph-of}
+use Rattle.graphs.specs.Saved.{saved}
 use Rattle.inputs.specs.Cut.{table-text, script-text}
-
--- 40 00 (τ), 40 01 (✓) or 40 02 ee (event ee): an accepted step
-unfoldable pub step-frame : Event → List ℕ
-step-frame τ = 0x40 ∷ 0 ∷ []
-step-frame ✓ = 0x40 ∷ 1 ∷ []
-step-frame (visible e) = 0x40 ∷ 2 ∷ e ∷ []
-
--- 41 ss: 00 live, 01 ended, 02 stuck
-unfoldable pub status-frame : Status → List ℕ
-status-frame live = 0x41 ∷ 0 ∷ []
-status-frame ended = 0x41 ∷ 1 ∷ []
-status-frame stuck = 0x41 ∷ 2 ∷ []
-
--- 4e rr llll: a refusal's number and line
-unfoldable pub refusal-frame : ℕ → ℕ → List ℕ
-refusal-frame n line = 0x4e ∷ n ∷ two line
+use Rattle.telling.specs.ListingFrame.{step-frame, status-frame, refusal-frame, alone}
 
 -- how a script ends: behind its last line, or at the first that is refused, by its number
 pub data End : Type 0 where
@@ -44,11 +28,6 @@ pub record Played : Type 0 where
   pub events : List Event
   pub end : End
   pub state : State
-
--- the address that digits are
-unfoldable pub address-of : List ℕ → Option Address
-address-of [] = some []
-address-of (d ∷ ds) = with-digit (digit-of d) (address-of ds)
 
 -- what a line of a script comes to: its own refusal, or its address's answer
 unfoldable pub line-answer : List Term → State → Asked → Answer
@@ -78,10 +57,6 @@ save-room = 65536
 unfoldable pub end-frames : End → List (List ℕ)
 end-frames played-out = []
 end-frames (refused-at r n) = refusal-frame r n ∷ []
-
--- a refusal told alone
-abbrev pub alone : ℕ → ℕ → List ℕ
-alone r n = text (refusal-frame r n ∷ [])
 
 -- a saved track; 12 is told instead where it passes its room
 unfoldable pub within-room : List ℕ → List ℕ

@@ -1,13 +1,12 @@
 // The tracking program's listing: from the bytes of an input to the bytes of its output. The table is judged whole, the
 // script is played line by line, and each accepted step, the status, the refusal that ended the script and the saved
 // track are put behind one another. It relies on the doors below for all that is told.
-mod telling;
-
+use columns::wide;
 use inputs::table_end;
 use offers::status_at;
 use plans::lay_out;
-use runs::Played;
-use runs::play;
+use playing::Played;
+use playing::play;
 use runs::start;
 use saving::save;
 use tables::Checked;
@@ -16,7 +15,6 @@ use telling::put_copy;
 use telling::put_event;
 use telling::put_refusal;
 use telling::put_status;
-use walks::wide;
 use writing::Saved;
 ghost use mathlib.Core.Path.{_≡_};
 ghost use mathlib.Core.List.{map};
@@ -25,9 +23,10 @@ ghost use lib.ListN.{length};
 ghost use lib.Seq.{sets as put};
 ghost use Rattle.lines.specs.Line.{text};
 ghost use Rattle.spelling.specs.Puts.{Puts};
-ghost use Rattle.saving.specs.Code.{text-of};
-ghost use Rattle.listing.specs.Listing.{listing, alone, within-room, script-room};
-ghost use Rattle.listing.specs.Code as of;
+ghost use Rattle.saving.specs.code.Saving.{text-of};
+ghost use Rattle.listing.specs.Listing.{listing, within-room, script-room};
+ghost use Rattle.telling.specs.code.Shown.{shown-step};
+ghost use Rattle.listing.specs.code.Told as of;
 
 // Rooms of a script's text and of the slice that a track is saved through.
 const SCRIPT_ROOM: usize = 65536;
@@ -176,7 +175,7 @@ fn put_steps(
         (now (nodes .entry)) (now (track .entry)) (now (counters .entry)) .track ⌝ }
     ensures { λ _. ⌜ now (counters .exit) ≡ of.from-words (now (plan .entry)) (now (sets .entry)) (now (script .entry))
         (now (nodes .entry)) (now (track .entry)) (now (counters .entry)) .counters ⌝ }
-    ensures { λ r. ⌜ Puts 0 (text (map of.shown-step (of.from-words (now (plan .entry)) (now (sets .entry))
+    ensures { λ r. ⌜ Puts 0 (text (map shown-step (of.from-words (now (plan .entry)) (now (sets .entry))
         (now (script .entry)) (now (nodes .entry)) (now (track .entry)) (now (counters .entry)) .events)))
         (now (out .entry)) (now (out .exit)) (r .end) ⌝ }
     ensures { λ r. ⌜ r .end ≤ 7 * script-room ⌝ }

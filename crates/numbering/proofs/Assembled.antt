@@ -11,22 +11,24 @@ use lib.Seq.{sets, set-set, set-comm}
 use lib.Dec.{ltb, eqb}
 use borrow.Author.Tests.{ltb-true}
 use Rattle.lines.specs.Line.{choose}
-use Rattle.places.specs.Code.{look}
-use Rattle.report.specs.Track.{Pair}
-use Rattle.report.specs.Run.{arc-room, meeting-room}
-use Rattle.control.specs.Words.{track-words, reference-room}
-use Rattle.stepping.specs.Views.{pairs}
-use Rattle.tracks.specs.Parsed.{ends-below}
-use Rattle.tracks.specs.Shape.{every}
-use Rattle.tracks.proofs.Walking.{Within, within-none, within-one, within-append}
-use Rattle.tracks.proofs.Walking.{walk-distinct, walk-within, distinct-below}
-use Rattle.walks.specs.Columns.{at, flat}
-use Rattle.walks.specs.Linked.{side-words, linked, target, on}
-use Rattle.walks.specs.Walked.{first, walked, numbers-from, numbers, laid, marks-by}
-use Rattle.numbering.specs.Numbered.{renumbered, sorted, order-by, arcs-by, meetings-by, labels-out, track-out}
-use Rattle.numbering.proofs.Listed.{put-long, flat-length, pairs-length, pairs-back}
-use Rattle.numbering.proofs.Renumbering.{renumbered-length, renumbered-below}
-use Rattle.numbering.proofs.Ordering.{sorted-length}
+use Rattle.columns.specs.words.Columns.{look}
+use Rattle.rules.specs.Track.{Pair}
+use Rattle.rules.specs.Run.{arc-room, meeting-room}
+use Rattle.control.specs.words.Words.{track-words, reference-room}
+use Rattle.control.specs.words.Views.{pairs}
+use Rattle.graphs.specs.Parsed.{ends-below}
+use Rattle.graphs.specs.Shape.{every}
+use Rattle.graphs.proofs.Walking.{Within, within-none, within-one, within-append, walk-distinct, walk-within}
+use Rattle.graphs.proofs.Walking.{distinct-below}
+use Rattle.links.specs.words.Columns.{at, flat}
+use Rattle.links.specs.code.Linked.{side-words, linked, target, on}
+use Rattle.walks.specs.code.Walked.{first, walked, numbers-from, numbers, laid, marks-by}
+use Rattle.pairing.specs.code.Renumbered.{renumbered}
+use Rattle.sorting.specs.code.Sorted.{sorted}
+use Rattle.numbering.specs.code.Numbered.{order-by, arcs-by, meetings-by, labels-out, track-out}
+use Rattle.links.proofs.Listed.{put-long, flat-length, pairs-length, pairs-back}
+use Rattle.pairing.proofs.Renumbering.{renumbered-length, renumbered-below}
+use Rattle.sorting.proofs.Ordering.{sorted-length}
 
 -- the walk goes to references only
 abbrev Below : List ℕ → Type 0

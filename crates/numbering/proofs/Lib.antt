@@ -2,10 +2,4 @@
 -- key; `Counts`, of the words that count them; `Segments`, of the words that a counting sort puts;
 -- `Renumbering`, of pairs by the numbers of their ends; `Ordering`, of what sorting means; `Assembled`, of the
 -- whole graph by its numbers.
-pub mod Listed
-pub mod Keys
-pub mod Counts
-pub mod Segments
-pub mod Renumbering
-pub mod Ordering
 pub mod Assembled

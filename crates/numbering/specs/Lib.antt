@@ -1,4 +1,3 @@
 -- `Numbered` is a graph in columns, whatever they hold, by the numbers of the walk; `Keyed` is what its pairs
 -- are sorted by.
-pub mod Numbered
-pub mod Keyed
+pub mod code

@@ -1,21 +1,20 @@
 // A track's graph by the numbers of the walk: the walk numbers the nodes, and marks, arcs and meetings go to columns by
 // those numbers, arcs and meetings sorted.
-mod pairing;
-mod sorting;
-
+use links::Counts;
+use links::at_most;
+use links::link;
 use pairing::renumber;
 use sorting::sort;
-use walks::Counts;
-use walks::at_most;
-use walks::link;
 use walks::walk;
 ghost use mathlib.Core.Path.{_≡_};
 ghost use Prim.Native.Nat.{ℕ, _+_, _*_, _≤_};
 ghost use lib.ListN.{length, replicate};
 ghost use lib.Seq.{sets};
-ghost use Rattle.stepping.specs.Views.{pairs};
-ghost use Rattle.walks.specs.Columns.{at, flat};
-ghost use Rattle.numbering.specs.Numbered as of;
+ghost use Rattle.control.specs.words.Views.{pairs};
+ghost use Rattle.links.specs.words.Columns.{at, flat};
+ghost use Rattle.pairing.specs.code.Renumbered.{renumbered};
+ghost use Rattle.sorting.specs.code.Sorted.{sorted};
+ghost use Rattle.numbering.specs.code.Numbered as of;
 
 // Rooms of a run.
 const ARCS: usize = 8192;
@@ -109,10 +108,10 @@ fn number_pairs(
     requires { ⌜ (nodes ≤ 8193) × (count ≤ 8192) × (base + 2 * count ≤ 28672) ⌝ }
     requires { ⌜ (length (now graph) ≡ 28672) × (length (now spare) ≡ 28672) ⌝ }
     requires { ⌜ ((n : ℕ) → at (now numbers) n ≤ nodes) ⌝ }
-    ensures { λ r. ⌜ r ≡ length (of.sorted nodes
-        (of.renumbered either (now (numbers .entry)) (pairs base (now (track .entry)) 0 count))) ⌝ }
-    ensures { λ _. ⌜ now (graph .exit) ≡ sets (now (graph .entry)) base (flat (of.sorted nodes
-        (of.renumbered either (now (numbers .entry)) (pairs base (now (track .entry)) 0 count)))) ⌝ }
+    ensures { λ r. ⌜ r ≡ length (sorted nodes
+        (renumbered either (now (numbers .entry)) (pairs base (now (track .entry)) 0 count))) ⌝ }
+    ensures { λ _. ⌜ now (graph .exit) ≡ sets (now (graph .entry)) base (flat (sorted nodes
+        (renumbered either (now (numbers .entry)) (pairs base (now (track .entry)) 0 count)))) ⌝ }
     ensures { λ _. ⌜ length (now (spare .exit)) ≡ 28672 ⌝ }
 {
     let kept = renumber(base, count, either, track, numbers, graph);

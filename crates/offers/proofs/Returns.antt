@@ -9,20 +9,20 @@ use native.Mathlib.Omega.{arith}
 use lib.Dec.{eqb, ltb}
 use borrow.Author.Tests.{lt-ltb, le-ltb, eq-eqb, ne-eqb, eqb-true, eqb-false}
 use Rattle.frames.specs.TableFrame.{term-room, event-room}
-use Rattle.frames.specs.EventSet.{member}
-use Rattle.frames.proofs.Members.{set-within}
-use Rattle.places.specs.Code.{look}
-use Rattle.report.specs.Run.{cell-room}
-use Rattle.report.proofs.Offered.{or-right}
-use Rattle.plans.specs.Plan.{kind, operand, second, around}
-use Rattle.control.specs.Control.{state, term, frame, first, second-side, at-end, beyond}
+use Rattle.sets.specs.EventSet.{member}
+use Rattle.sets.proofs.Members.{set-within}
+use Rattle.columns.specs.words.Columns.{look}
+use Rattle.rules.specs.Run.{cell-room}
+use Rattle.rules.proofs.Offered.{or-right}
+use Rattle.plans.specs.words.Plan.{kind, operand, second, around}
+use Rattle.control.specs.words.Control.{state, term, frame, first, second-side, at-end, beyond}
 use Rattle.sets.specs.Told.{SetOf, shown}
 use Rattle.sets.proofs.Bits.{none-in-zero}
 use Rattle.offers.specs.declared.Offered.{Offered}
 use Rattle.offers.specs.declared.Status.the-variants.{Live, Ended, Stuck}
-use Rattle.offers.specs.Code.{Offer, seen, unseen, own, settled, combined}
-use Rattle.offers.specs.Code.{by-kind, first-of, of-term, levels, followed, bound, ended, by-state, at}
-use Rattle.offers.specs.Code.{offered, some-of, standing, status}
+use Rattle.offers.specs.code.Offering.{Offer, seen, unseen, own, settled, combined, by-kind, first-of}
+use Rattle.offers.specs.code.Offering.{of-term, levels, followed, bound, ended, by-state, at, offered}
+use Rattle.offers.specs.code.Offering.{some-of, standing, status}
 
 -- a level falls
 pub one-less : (n : ℕ) → (n ≡ 0 → ⊥) → n ≡ suc (n - 1)

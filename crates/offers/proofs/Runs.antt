@@ -10,18 +10,18 @@ use lib.Dec.{eqb}
 use borrow.Author.Tests.{ne-eqb, eqb-true, eqb-false}
 use Rattle.lines.specs.Line.{choose}
 use Rattle.frames.specs.TableFrame.{event-room}
-use Rattle.report.specs.Process.{Process}
-use Rattle.report.specs.Run.{cell-room}
-use Rattle.report.specs.Step.{at-Ω}
-use Rattle.report.specs.Offers.{leaf-offers, offers-τ, offers-✓, offers-event, offers-some}
-use Rattle.report.specs.Offers as Report
-use Rattle.plans.specs.Plan.{Layout}
+use Rattle.rules.specs.Process.{Process}
+use Rattle.rules.specs.Run.{cell-room}
+use Rattle.rules.specs.Step.{at-Ω}
+use Rattle.rules.specs.Offers.{leaf-offers, offers-τ, offers-✓, offers-event, offers-some}
+use Rattle.rules.specs.Offers as Report
+use Rattle.plans.specs.words.Plan.{Layout}
 use Rattle.sets.proofs.Told.{same-members}
 use Rattle.offers.specs.declared.Offered.{Offered}
 use Rattle.offers.specs.declared.Status.{Status}
 use Rattle.offers.specs.declared.Status.the-variants.{Live, Ended, Stuck}
-use Rattle.offers.specs.Code.{Offer, seen, settled, ended, offered, some-of, standing, status}
-use Rattle.offers.specs.Told.{offer-of, Low, Controls, starts, stands, Tells, Covers, status-of}
+use Rattle.offers.specs.code.Offering.{Offer, seen, settled, ended, offered, some-of, standing, status}
+use Rattle.offers.specs.words.Told.{offer-of, Low, Controls, starts, stands, Tells, Covers, status-of}
 use Rattle.offers.proofs.Returns.{ended-not}
 use Rattle.offers.proofs.Standing.{nested, beyond-bound, ended-told, offers-told}
 

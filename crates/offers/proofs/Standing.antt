@@ -13,20 +13,21 @@ use lib.Dec.{eqb}
 use borrow.Author.Tests.{eq-eqb, ne-eqb, eqb-true, eqb-false}
 use Rattle.frames.specs.TableFrame.{term-room}
 use Rattle.places.specs.Place.{Place}
-use Rattle.places.specs.Code.{look}
-use Rattle.places.proofs.Ways.{look-in}
-use Rattle.report.specs.Process.{Process, leaf, prefix, internal, split, sequence, Ω, ⊥′, Split, choice, together}
-use Rattle.report.specs.Process.{cells}
-use Rattle.report.specs.Step.{at-Ω}
-use Rattle.report.specs.Offers.{offers-τ, offers-✓, offers-event}
-use Rattle.plans.specs.Plan.{Layout, kind, second, around}
-use Rattle.control.specs.Control.{state, term, frame, first, second-side, at-end}
-use Rattle.control.specs.Control.{inside, split-kind, split-set, Around, Untouched, Rests, Splits, Holds}
-use Rattle.offers.specs.Code.{Offer, unseen, settled, combined, of-term, levels, followed}
-use Rattle.offers.specs.Code.{bound, ended, at}
-use Rattle.offers.specs.Told.{offer-of, Low}
-use Rattle.offers.proofs.Returns.{one-less, first-in, ended-not, ended-state, followed-there, followed-beyond}
-use Rattle.offers.proofs.Returns.{at-side, at-more, state-still, state-resting, state-entered}
+use Rattle.columns.specs.words.Columns.{look}
+use Rattle.columns.proofs.Laws.{look-in}
+use Rattle.rules.specs.Process.{Process, leaf, prefix, internal, split, sequence, Ω, ⊥′, Split, choice}
+use Rattle.rules.specs.Process.{together, cells}
+use Rattle.rules.specs.Step.{at-Ω}
+use Rattle.rules.specs.Offers.{offers-τ, offers-✓, offers-event}
+use Rattle.plans.specs.words.Plan.{Layout, kind, second, around}
+use Rattle.control.specs.words.Control.{state, term, frame, first, second-side, at-end, inside, split-kind}
+use Rattle.control.specs.words.Control.{split-set, Around, Untouched, Rests, Splits, Holds}
+use Rattle.offers.specs.code.Offering.{Offer, unseen, settled, combined, of-term, levels, followed}
+use Rattle.offers.specs.code.Offering.{bound, ended, at}
+use Rattle.offers.specs.words.Told.{offer-of, Low}
+use Rattle.offers.proofs.Returns.{one-less, first-in, ended-not, ended-state, followed-there}
+use Rattle.offers.proofs.Returns.{followed-beyond, at-side, at-more, state-still, state-resting}
+use Rattle.offers.proofs.Returns.{state-entered}
 use Rattle.offers.proofs.Untouched.{in-plan, no-Ω, untouched-told}
 
 -- whether there are sequences around

@@ -13,20 +13,19 @@ use lib.Dec.{ltb}
 use borrow.Author.Tests.{lt-ltb, ltb-true}
 use Rattle.lines.specs.Line.{choose}
 use Rattle.frames.specs.TableFrame.{term-room, path-room, event-room}
-use Rattle.frames.specs.Kind as Kind
-use Rattle.terms.specs.Term.{Leaf, call, SKIP, STOP, Operator, external, parallel, Term, Shallow}
-use Rattle.terms.specs.Term.{leaf-kind, operator-kind, operator-payload}
+use Rattle.kinds.specs.Kind as Kind
+use Rattle.terms.specs.Term.{Leaf, call, SKIP, STOP, Operator, external, parallel, Term, Shallow, leaf-kind}
+use Rattle.terms.specs.Term.{operator-kind, operator-payload}
 use Rattle.terms.specs.Term as Term
 use Rattle.places.specs.Place.{Place}
-use Rattle.places.specs.Code.{look}
-use Rattle.places.proofs.Ways.{look-in}
-use Rattle.report.specs.Process.{leaf, prefix, internal, sequence, below, joined}
-use Rattle.report.specs.Process.{untouched}
-use Rattle.report.specs.Step.{at-Ω}
-use Rattle.report.specs.Offers.{leaf-offers, offers-τ, offers-✓, offers-event}
-use Rattle.plans.specs.Plan.{Layout, word, kind, operand, second, Planned, first-around, second-around}
-use Rattle.offers.specs.Code.{Offer, own, settled, combined, by-kind, of-term, levels}
-use Rattle.offers.specs.Told.{offer-of, Low}
+use Rattle.columns.specs.words.Columns.{look}
+use Rattle.columns.proofs.Laws.{look-in}
+use Rattle.rules.specs.Process.{leaf, prefix, internal, sequence, below, joined, untouched}
+use Rattle.rules.specs.Step.{at-Ω}
+use Rattle.rules.specs.Offers.{leaf-offers, offers-τ, offers-✓, offers-event}
+use Rattle.plans.specs.words.Plan.{Layout, word, kind, operand, second, Planned, first-around, second-around}
+use Rattle.offers.specs.code.Offering.{Offer, own, settled, combined, by-kind, of-term, levels}
+use Rattle.offers.specs.words.Told.{offer-of, Low}
 use Rattle.offers.proofs.Returns.{same-offers, one-less, first-in, term-more}
 
 -- a term with a kind is one of the plan's

@@ -1,4 +1,4 @@
 -- What a run offers, and its status: `Code` is what the functions compute whatever words they are handed, and
 -- `Told` what that is of a control.
-pub mod Code
-pub mod Told
+pub mod words
+pub mod code

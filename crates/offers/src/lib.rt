@@ -20,13 +20,13 @@ ghost use mathlib.Core.Path.{_≡_};
 ghost use mathlib.Core.Bool.{_&&_};
 ghost use Prim.Native.Nat.{ℕ};
 ghost use Rattle.frames.specs.TableFrame.{term-room};
-ghost use Rattle.places.specs.Code.{look};
-ghost use Rattle.report.specs.Process.{Process};
-ghost use Rattle.report.specs.Offers.{status};
-ghost use Rattle.plans.specs.Plan.{Layout};
-ghost use Rattle.offers.specs.Code as code;
-ghost use Rattle.offers.specs.Code.{seen};
-ghost use Rattle.offers.specs.Told.{Low, Controls, Tells, Covers, status-of};
+ghost use Rattle.columns.specs.words.Columns.{look};
+ghost use Rattle.rules.specs.Process.{Process};
+ghost use Rattle.rules.specs.Offers.{status};
+ghost use Rattle.plans.specs.words.Plan.{Layout};
+ghost use Rattle.offers.specs.code.Offering as code;
+ghost use Rattle.offers.specs.code.Offering.{seen};
+ghost use Rattle.offers.specs.words.Told.{Low, Controls, Tells, Covers, status-of};
 
 // Whether τ and ✓ are offered, and which events.
 pub struct Offered {

@@ -2,6 +2,4 @@
 -- place, `Turns`, the work a line at a time; and `FoundLaws`: by the columns of a checked table the mark at a place is its
 -- literal's.
 pub mod Tested
-pub mod Followed
 pub mod Turns
-pub mod FoundLaws

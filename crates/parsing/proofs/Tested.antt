@@ -1,6 +1,6 @@
 -- What the tests on a line's characters make of its frame: the first byte and the length tell whether the frame is the one
 -- that is due, and then its numbers tell whether they are in their ranges. Assumes nothing.
-use Prim.Native.Nat.{ℕ, suc, _+_, _*_, _/_, _≤_, _<_}
+use Prim.Native.Nat.{ℕ, _+_, _/_, _≤_, _<_}
 use mathlib.Core.Path.{_≡_, refl, sym, _∙_}
 use mathlib.Core.Bool.{Bool, true, false, and-false}
 use mathlib.Core.List.{List, [], _∷_, _++_}
@@ -9,19 +9,19 @@ use mathlib.Core.Option.{some}
 use native.Mathlib.Omega.{arith}
 use lib.ListN.{length, drop, getD, length-drop}
 use lib.Dec.{leb, eqb}
-use lib.Seq.{drop-cons}
 use borrow.Author.Tests.{eqb-true, eq-eqb, ne-eqb, lt-ltb, le-ltb, le-leb, lt-leb}
-use Rattle.lines.specs.Line.{choose, number-from, bytes}
-use Rattle.lines.specs.Code.{byteAt}
+use Rattle.lines.specs.Line.{choose, bytes, number-at}
+use Rattle.numbers.specs.code.Numbers.{byteAt}
 use Rattle.lines.proofs.Digits.{both}
-use Rattle.lines.proofs.Laws.{bytes-length, byte-is}
-use Rattle.report.specs.Track.{Pair}
-use Rattle.tracks.specs.Graph.{Graph}
-use Rattle.tracks.specs.Saved.{arc-code, meeting-code}
-use Rattle.tracks.specs.Parsed.{Frame, opening, node, arc, meeting, last, wrong, number-at, pair-at, place-at}
-use Rattle.tracks.specs.Parsed.{formed, frame-of, a-node, an-arc, a-meeting, the-last}
-use Rattle.tracks.specs.Parsed.{ends-below, in-range, unless, refusal, first-refusal, taken}
-use Rattle.parsing.specs.Phases.{due-of, with-pairs}
+use Rattle.lines.proofs.Laws.{bytes-length}
+use Rattle.numbers.proofs.Laws.{byte-held}
+use Rattle.rules.specs.Track.{Pair}
+use Rattle.graphs.specs.Graph.{Graph}
+use Rattle.graphs.specs.Saved.{arc-code, meeting-code}
+use Rattle.graphs.specs.Parsed.{Frame, opening, node, arc, meeting, last, wrong, pair-at, place-at, formed}
+use Rattle.graphs.specs.Parsed.{frame-of, a-node, an-arc, a-meeting, the-last, ends-below, in-range, unless}
+use Rattle.graphs.specs.Parsed.{refusal, first-refusal, taken}
+use Rattle.parsing.specs.code.Phases.{due-of, with-pairs}
 
 -- the first byte of pairs
 abbrev pub PairCode : ℕ → Type 0
@@ -157,34 +157,20 @@ module _ (bs : List ℕ) where
         go true e = last-is e
         go false e = absurd (omega (arith, no-last d n e, z))
 
--- two bytes from byte k on
-two-at : (bs : List ℕ) (k : ℕ) → k + 2 ≤ length bs → number-at k bs ≡ getD bs k 0 * 256 + getD bs (k + 1) 0
-unfolding number-from
-two-at bs k h =
-    let s : k + 1 ≡ suc k = omega arith in
-    rw (s, drop-cons bs k 0 (omega arith), drop-cons bs (suc k) 0 (omega arith)) (omega arith)
-
 -- the characters of a line, and its bytes: what is read of the one is held by the other
 module _ (cs bs : List ℕ) (stands : bytes cs ≡ some bs) where
   counted : length bs ≡ length cs / 2
   counted = omega (arith, bytes-length cs bs stands)
 
-  pub byte-held : (k : ℕ) {b : ℕ} → b ≡ byteAt cs k → getD bs k 0 ≡ b
-  byte-held k e = sym (e ∙ byte-is cs bs k stands)
-
-  pub number-read : (k : ℕ) {a b : ℕ} → a ≡ byteAt cs k → b ≡ byteAt cs (k + 1) → k + 2 ≤ length bs
-      → a * 256 + b ≡ number-at k bs
-  number-read k p q h = rw (two-at bs k h, byte-held k p, byte-held (k + 1) q)
-
   -- a first byte, or a length, that is not the frame's
   pub other-tag : (t n : ℕ) {b : ℕ} → b ≡ byteAt cs 0 → (b ≡ t → ⊥) → formed t n bs ≡ false
-  other-tag t n {b} e h = simp (byte-held 0 e, ne-eqb b t h)
+  other-tag t n {b} e h = simp (byte-held cs bs stands 0 e, ne-eqb b t h)
 
   other-count : (t n : ℕ) → (length bs ≡ n → ⊥) → formed t n bs ≡ false
   other-count t n h = simp (ne-eqb (length bs) n h, and-false (eqb (getD bs 0 0) t))
 
   right : (t n : ℕ) {b : ℕ} → b ≡ byteAt cs 0 → b ≡ t → length bs ≡ n → formed t n bs ≡ true
-  right t n {b} e h l = simp (byte-held 0 e, eq-eqb b t h, eq-eqb (length bs) n l)
+  right t n {b} e h l = simp (byte-held cs bs stands 0 e, eq-eqb b t h, eq-eqb (length bs) n l)
 
   -- where a node is due
   module _ (d n : ℕ) {b : ℕ} (first : b ≡ byteAt cs 0) where
@@ -195,11 +181,11 @@ module _ (cs bs : List ℕ) (stands : bytes cs ≡ some bs) where
       pub node-length : (length cs / 2 ≡ p + 5 → ⊥) → 2 ≡ refusal d n a-node (frame-of bs)
       node-length h =
           sym (no-node bs d n (other-count 0x31 (5 + getD bs 4 0)
-          (λ q. h (omega (arith, counted, byte-held 4 size, q)))))
+          (λ q. h (omega (arith, counted, byte-held cs bs stands 4 size, q)))))
 
       module _ (tagged : b ≡ 0x31) (long : length cs / 2 ≡ p + 5) where
         size-is : length bs ≡ 5 + getD bs 4 0
-        size-is = omega (arith, counted, byte-held 4 size)
+        size-is = omega (arith, counted, byte-held cs bs stands 4 size)
 
         path-is : length (drop 5 bs) ≡ p
         path-is = omega (arith, length-drop 5 bs, counted)
@@ -217,11 +203,11 @@ module _ (cs bs : List ℕ) (stands : bytes cs ≡ some bs) where
 
           pub definition-past : d ≤ k → 3 ≡ refusal d n a-node (frame-of bs)
           unfolding in-range
-          definition-past h = rw met (simp (in-room, byte-held 3 inside, le-ltb k d h))
+          definition-past h = rw met (simp (in-room, byte-held cs bs stands 3 inside, le-ltb k d h))
 
           pub node-fits : k < d → 0 ≡ refusal d n a-node (frame-of bs)
           unfolding in-range
-          node-fits h = rw met (simp (in-room, byte-held 3 inside, lt-ltb k d h))
+          node-fits h = rw met (simp (in-room, byte-held cs bs stands 3 inside, lt-ltb k d h))
 
   -- where a pair is due
   module _ (d n c : ℕ) (code : PairCode c) where
@@ -293,7 +279,7 @@ module _ (cs bs : List ℕ) (stands : bytes cs ≡ some bs) where
     opening-read =
         opening-is bs (right 0x30 8 first tagged eight)
         ∙ rw (
-          byte-held 1 edition,
+          byte-held cs bs stands 1 edition,
           nodes (omega (arith, eight)),
           arcs (omega (arith, eight)),
           meetings (omega (arith, eight)),

@@ -12,26 +12,27 @@ use lib.ListN.{length, drop, replicate, set, length-append}
 use lib.Dec.{leb, eqb}
 use lib.Seq.{sets}
 use borrow.Author.Tests.{eq-eqb, ne-eqb, leb-true, not-true, not-false}
-use Rattle.lines.specs.Line.{lines, bytes, frame, answer}
+use Rattle.lines.specs.Line.{lines, bytes, frame, answer, number-at}
 use Rattle.lines.specs.Line as line
-use Rattle.lines.specs.Code.{part}
+use Rattle.lines.specs.code.Characters.{part}
 use Rattle.lines.specs.declared.Line.{Line}
 use Rattle.lines.specs.declared.Line.the-variants.{Found, NoLine, End}
 use Rattle.lines.proofs.Digits.{both}
 use Rattle.lines.proofs.Laws.{IsLine, is-line, not-a-line, none-left}
 use Rattle.tables.proofs.Kept.{sets-snoc}
-use Rattle.report.specs.Track.{Label, Pair}
-use Rattle.tracks.specs.Graph.{Graph}
-use Rattle.tracks.specs.Parsed.{Due, a-node, the-last, frame-of, number-at, pair-at, refusal, first-refusal, taken, nothing}
-use Rattle.tracks.specs.Parsed.{verdict, heard, Parsed, refused, rest, behind, from-first, opening}
-use Rattle.walks.specs.Columns.{flat}
-use Rattle.parsing.specs.Found.{mark-of, marks-of}
-use Rattle.parsing.specs.Phases.{label-at, labelled, due-of, with-pairs, ahead, Begun}
-use Rattle.parsing.specs.Phases.{NodesRead, NodesTold, PairsRead, PairsTold, EndTold, LastTold, NoneTold}
+use Rattle.rules.specs.Track.{Label, Pair}
+use Rattle.graphs.specs.Graph.{Graph}
+use Rattle.graphs.specs.Parsed.{Due, a-node, the-last, frame-of, pair-at, refusal, first-refusal, taken}
+use Rattle.graphs.specs.Parsed.{nothing, verdict, heard, Parsed, refused, rest, behind, from-first, opening}
+use Rattle.links.specs.words.Columns.{flat}
+use Rattle.finding.specs.code.Found.{mark-of, marks-of}
+use Rattle.finding.specs.words.Node.{label-at}
+use Rattle.parsing.specs.code.Phases.{labelled, due-of, with-pairs, ahead, Begun, NodesRead, NodesTold}
+use Rattle.parsing.specs.code.Phases.{PairsRead, PairsTold, EndTold, LastTold, NoneTold}
 use Rattle.parsing.specs.declared.Opened.the-variants.{Track, Fails}
 use Rattle.parsing.specs.declared.Lines.{Lines}
 use Rattle.parsing.specs.declared.Lines.the-variants.{Goes, Stops}
-use Rattle.parsing.proofs.FoundLaws.{marks-length}
+use Rattle.finding.proofs.FoundLaws.{marks-length}
 use Rattle.parsing.proofs.Tested.{PairCode, node-due, pair-due, last-due}
 
 -- an answer that is no found line

@@ -1,3 +1,2 @@
 -- The lines of a saved track: `Found` is the mark at a place, and `Phases` what each part of the line reading comes to.
-pub mod Found
-pub mod Phases
+pub mod code

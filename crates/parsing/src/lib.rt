@@ -1,13 +1,24 @@
-// The lines of a saved track read into columns: each is judged as it comes, a node's place becomes its mark, and a pair's
-// numbers go to the words of a track. It relies on the line finder and on the columns of the table check.
-mod finding;
-mod framing;
-mod numbers;
-
-pub use framing::first_line;
-pub use framing::last_lines;
-pub use framing::read_nodes;
-pub use framing::read_pairs;
+// The lines of a saved track read into columns: line 1, its nodes, its pairs and its last line. Each line is judged as it
+// comes, a node's place becomes its mark, and a pair's numbers go to the words of a track. It relies on the line finder and
+// on the mark of a node's line.
+use finding::mark_of;
+use lines::Line;
+use lines::characters;
+use lines::next_line;
+use lines::refusal_of;
+use numbers::byte;
+use numbers::byte_at;
+use numbers::number_at;
+ghost use mathlib.Core.Path.{_≡_};
+ghost use mathlib.Core.Bool.{_&&_, not};
+ghost use mathlib.Core.List.{List};
+ghost use mathlib.Core.Logic.{_⊎_};
+ghost use mathlib.Core.Option.{some};
+ghost use Prim.Native.Nat.{ℕ, _+_, _*_, _≤_};
+ghost use lib.Dec.{leb, eqb};
+ghost use Rattle.lines.specs.Line.{bytes};
+ghost use Rattle.graphs.specs.Parsed.{refusal, frame-of, a-node};
+ghost use Rattle.parsing.specs.code.Phases as of;
 
 // Line 1: the counts of a track, with the next line from `next` on; or the number of its refusal.
 pub enum Opened {
@@ -24,4 +35,253 @@ pub enum Opened {
 pub enum Lines {
     Goes(usize),
     Stops { number: u8, line: usize },
+}
+
+// Rooms of a run.
+const NODES: usize = 4096;
+
+const ARCS: usize = 8192;
+
+const MEETINGS: usize = 4096;
+
+// The most digits of a path.
+const PATH: usize = 64;
+
+// First bytes of frames.
+const OPENING: u8 = 48;
+
+const NODE: u8 = 49;
+
+const LAST: u8 = 63;
+
+const EDITION: u8 = 1;
+
+// How many bytes stand before a node's path.
+const NODE_HEAD: usize = 5;
+
+// Numbers of refusals: not a line; wrong frame or length; a number outside its range.
+const NO_LINE: u8 = 1;
+
+const WRONG_FRAME: u8 = 2;
+
+const OUT_OF_RANGE: u8 = 3;
+
+// Reads line 1.
+pub fn first_line(text: &[u8]) -> Opened
+    ensures { λ r. ⌜ of.Begun (now (text .entry)) r ⌝ }
+{
+    let line = next_line(text, 0);
+    let Line::Found { end, next } = line else {
+        return Opened::Fails(refusal_of(line));
+    };
+    let chars = characters(text, 0, end);
+    if chars.len() != 16 {
+        return Opened::Fails(WRONG_FRAME);
+    }
+    if byte(chars, 0) != OPENING {
+        return Opened::Fails(WRONG_FRAME);
+    }
+    let nodes = number_at(chars, 2);
+    let arcs = number_at(chars, 4);
+    let meetings = number_at(chars, 6);
+    if counts_outside(byte(chars, 1), nodes, arcs, meetings) {
+        return Opened::Fails(OUT_OF_RANGE);
+    }
+    Opened::Track {
+        nodes,
+        arcs,
+        meetings,
+        next,
+    }
+}
+
+// An edition other than 01, or a count over the run's room.
+fn counts_outside(edition: u8, nodes: usize, arcs: usize, meetings: usize) -> bool
+    ensures { λ r. ⌜ r ≡ not (eqb edition 1 && (leb nodes 4096 && (leb arcs 8192 && leb meetings 4096))) ⌝ }
+{
+    if edition != EDITION {
+        return true;
+    }
+    if NODES < nodes {
+        return true;
+    }
+    if ARCS < arcs {
+        return true;
+    }
+    if MEETINGS < meetings {
+        return true;
+    }
+    false
+}
+
+// Reads the lines of so many nodes, from line 2 on.
+pub fn read_nodes(
+    text: &[u8],
+    from: usize,
+    count: usize,
+    definitions: usize,
+    kinds: &[u8; 1024],
+    after: &[u16; 1024],
+    roots: &[u16; 64],
+    labels: &mut [u16; 8193],
+) -> Lines
+    requires { ⌜ count ≤ 4096 ⌝ }
+    ensures { λ r. ⌜ of.NodesTold (now (text .entry)) definitions count (now (kinds .entry)) (now (after .entry))
+        (now (roots .entry)) from (now (labels .entry)) (now (labels .exit)) r ⌝ }
+{
+    let mut at = from;
+    let mut k: usize = 0;
+    while k < count {
+        let line = next_line(text, at);
+        let Line::Found { end, next } = line else {
+            return Lines::Stops {
+                number: refusal_of(line),
+                line: k + 2,
+            };
+        };
+        let chars = characters(text, at, end);
+        let number = node_refusal(chars, definitions);
+        if number != 0 {
+            return Lines::Stops {
+                number,
+                line: k + 2,
+            };
+        }
+        labels[k] = mark_of(k, chars, kinds, after, roots);
+        at = next;
+        k += 1;
+    }
+    Lines::Goes(at)
+}
+
+// The number that a line meets where a node is due, 0 where it meets none.
+fn node_refusal(chars: &[u8], definitions: usize) -> u8
+    ensures { λ r. ⌜ ((bs : List ℕ) → bytes (now (chars .entry)) ≡ some bs
+        → (n : ℕ) → r ≡ refusal definitions n a-node (frame-of bs)) ⌝ }
+{
+    let count = chars.len() / 2;
+    if byte(chars, 0) != NODE {
+        return WRONG_FRAME;
+    }
+    let length = byte_at(chars, 4);
+    if count != length + NODE_HEAD {
+        return WRONG_FRAME;
+    }
+    if PATH < length {
+        return OUT_OF_RANGE;
+    }
+    if definitions <= byte_at(chars, 3) {
+        return OUT_OF_RANGE;
+    }
+    0
+}
+
+// Reads the lines of so many pairs, which begin with `code`, of a track of so many nodes; the first is line `first`, and they
+// go to the words of a track from `base` on.
+pub fn read_pairs(
+    code: u8,
+    base: usize,
+    text: &[u8],
+    from: usize,
+    first: usize,
+    count: usize,
+    nodes: usize,
+    graph: &mut [u16; 28672],
+) -> Lines
+    requires { ⌜ (count ≤ 8192) × (base + 2 * count ≤ 28672) × (first ≤ 20000) × ((code ≡ 50) ⊎ (code ≡ 51)) ⌝ }
+    ensures { λ r. ⌜ ((d : ℕ) → of.PairsTold (now (text .entry)) d nodes code base count from first
+        (now (graph .entry)) (now (graph .exit)) r) ⌝ }
+{
+    let mut at = from;
+    let mut i: usize = 0;
+    while i < count {
+        let line = next_line(text, at);
+        let Line::Found { end, next } = line else {
+            return Lines::Stops {
+                number: refusal_of(line),
+                line: first + i,
+            };
+        };
+        let chars = characters(text, at, end);
+        let number = pair_refusal(code, chars, nodes);
+        if number != 0 {
+            return Lines::Stops {
+                number,
+                line: first + i,
+            };
+        }
+        let word = base + 2 * i;
+        graph[word] = (number_at(chars, 1) % 65536) as u16;
+        graph[word + 1] = (number_at(chars, 3) % 65536) as u16;
+        at = next;
+        i += 1;
+    }
+    Lines::Goes(at)
+}
+
+// The number that a line meets where a pair is due, 0 where it meets none.
+fn pair_refusal(code: u8, chars: &[u8], nodes: usize) -> u8
+    requires { ⌜ (code ≡ 50) ⊎ (code ≡ 51) ⌝ }
+    ensures { λ r. ⌜ ((bs : List ℕ) → bytes (now (chars .entry)) ≡ some bs
+        → (d : ℕ) → r ≡ refusal d nodes (of.due-of code) (frame-of bs)) ⌝ }
+{
+    if chars.len() != 10 {
+        return WRONG_FRAME;
+    }
+    if byte(chars, 0) != code {
+        return WRONG_FRAME;
+    }
+    if nodes <= number_at(chars, 1) {
+        return OUT_OF_RANGE;
+    }
+    if nodes <= number_at(chars, 3) {
+        return OUT_OF_RANGE;
+    }
+    0
+}
+
+// Reads the last line, behind which nothing may stand.
+pub fn last_lines(text: &[u8], at: usize, line: usize) -> Lines
+    requires { ⌜ line ≤ 20000 ⌝ }
+    ensures { λ r. ⌜ of.LastTold (now (text .entry)) at line r ⌝ }
+{
+    let found = next_line(text, at);
+    let Line::Found { end, next } = found else {
+        return Lines::Stops {
+            number: refusal_of(found),
+            line,
+        };
+    };
+    let chars = characters(text, at, end);
+    if chars.len() != 2 {
+        return Lines::Stops {
+            number: WRONG_FRAME,
+            line,
+        };
+    }
+    if byte(chars, 0) != LAST {
+        return Lines::Stops {
+            number: WRONG_FRAME,
+            line,
+        };
+    }
+    behind_last(text, next, line + 1)
+}
+
+// Behind the last line any line is a frame out of place.
+fn behind_last(text: &[u8], at: usize, line: usize) -> Lines
+    ensures { λ r. ⌜ of.NoneTold (now (text .entry)) at line r ⌝ }
+{
+    let found = next_line(text, at);
+    match found {
+        Line::End => Lines::Goes(at),
+        Line::NoLine => Lines::Stops {
+            number: NO_LINE,
+            line,
+        },
+        Line::Found { end: _, next: _ } => Lines::Stops {
+            number: WRONG_FRAME,
+            line,
+        },
+    }
 }

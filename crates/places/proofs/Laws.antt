@@ -14,26 +14,29 @@ use lib.ListN.{length, getD, getElem?, length-append}
 use lib.Dec.{eqb}
 use borrow.Author.Tests.{eqb-true, eq-eqb, ne-eqb}
 use Rattle.lines.specs.Line.{choose}
-use Rattle.frames.specs.Kind as Kind
-use Rattle.frames.specs.Kind.{subterms}
+use Rattle.kinds.specs.Kind as Kind
+use Rattle.kinds.specs.Kind.{subterms}
 use Rattle.tables.specs.Table.{Sofar, judged, accepted}
-use Rattle.tables.specs.Columns.{kinds, payloads, owners, afters, roots}
-use Rattle.terms.specs.Term.{Term, leaf, prefix, binary, size, Shallow, Holds, definitions-of}
+use Rattle.tables.specs.words.Columns.{kinds, payloads, owners, afters, roots}
+use Rattle.terms.specs.Term.{Term, leaf, prefix, binary, size, Shallow, definitions-of}
+use Rattle.terms.specs.words.Held.{Holds}
 use Rattle.terms.proofs.Trees.{leaf-subterms, operator-subterms, each-at, checked-trees}
 use Rattle.terms.proofs.Held.{size-some, holds-behind, checked-holds}
-use Rattle.places.specs.Place.{path-in, term-at, IsPrefix, PrefixAt, event-path, left-path}
-use Rattle.places.specs.Place.{Literal, own, event, shifted, event-end, literal-at}
-use Rattle.places.specs.Code.{Columns, look, next, digit, below, descended, path-of, with-event, event-of}
-use Rattle.places.specs.Code.{literal-path, literal-definition, told, answer, columns}
+use Rattle.places.specs.Place.{path-in, term-at, IsPrefix, PrefixAt, event-path, left-path, Literal}
+use Rattle.places.specs.Place.{own, event, shifted, event-end, literal-at}
+use Rattle.columns.specs.words.Columns.{Columns, look, columns}
+use Rattle.places.specs.code.Descent.{next, digit, below, descended, path-of, with-event, event-of}
+use Rattle.places.specs.code.Descent.{literal-path, literal-definition, told, answer}
 use Rattle.places.specs.declared.Literal.{Literal as Asked}
 use Rattle.places.specs.declared.Literal.the-variants.{Left, Own, Event}
 use Rattle.places.specs.declared.Placed.{Placed}
 use Rattle.places.specs.declared.Placed.the-variants.{At, Nowhere}
-use Rattle.places.proofs.Sides.{Side, only, first, second, by-number, path-root, term-root, literal-root}
-use Rattle.places.proofs.Sides.{side-first, side-inside, side-at, side-literal, side-shallow}
-use Rattle.places.proofs.Sides.{prefix-inside}
-use Rattle.places.proofs.Ways.{look-in, step-only, step-first, step-second, descended-here}
-use Rattle.places.proofs.Ways.{descended-short, descended-leaf, descended-step}
+use Rattle.places.proofs.Sides.{Side, only, first, second, by-number, path-root, term-root}
+use Rattle.places.proofs.Sides.{literal-root, side-first, side-inside, side-at, side-literal}
+use Rattle.places.proofs.Sides.{side-shallow, prefix-inside}
+use Rattle.columns.proofs.Laws.{look-in}
+use Rattle.places.proofs.Ways.{step-only, step-first, step-second, descended-here, descended-short}
+use Rattle.places.proofs.Ways.{descended-leaf, descended-step}
 use Rattle.places.proofs.Literals.{Places}
 
 -- literals numbered from another start

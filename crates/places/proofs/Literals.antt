@@ -12,11 +12,12 @@ use lib.Seq.{sets}
 use lib.Dec.{eqb}
 use borrow.Author.Tests.{eq-eqb, ne-eqb}
 use Rattle.lines.specs.Line.{choose}
-use Rattle.frames.specs.Kind.{subterms, prefix}
+use Rattle.kinds.specs.Kind.{subterms, prefix}
 use Rattle.tables.proofs.Kept.{sets-snoc}
-use Rattle.places.specs.Code.{Columns, look, next, digit, below, descended, reached, digits}
-use Rattle.places.specs.Code.{path-of, with-event, event-of, literal-path, literal-definition, told}
-use Rattle.places.specs.Code.{placed, answer}
+use Rattle.columns.specs.words.Columns.{Columns, look}
+use Rattle.places.specs.code.Descent.{next, digit, below, descended, reached, digits, path-of}
+use Rattle.places.specs.code.Descent.{with-event, event-of, literal-path, literal-definition, told}
+use Rattle.places.specs.code.Descent.{placed, answer}
 use Rattle.places.specs.declared.Literal.{Literal}
 use Rattle.places.specs.declared.Literal.the-variants.{Left, Own, Event}
 use Rattle.places.specs.declared.Placed.{Placed}

@@ -8,23 +8,15 @@ use mathlib.Core.Option.{Option, none, some}
 use native.Mathlib.Omega.{arith}
 use native.Mathlib.Nat.{add-zero}
 use native.Mathlib.Numerals.{add-one}
-use lib.ListN.{length, getD, set}
+use lib.ListN.{length, set}
 use lib.Seq.{sets, set-comm}
 use lib.Dec.{ltb}
 use borrow.Author.Tests.{ltb-true, lt-ltb, le-ltb, le-leb, lt-leb, eq-eqb, ne-eqb}
-use Rattle.frames.specs.Kind.{subterms}
-use Rattle.places.specs.Code.{look, next, digit, below, descended, reached, digits}
+use Rattle.kinds.specs.Kind.{subterms}
+use Rattle.columns.specs.words.Columns.{look}
+use Rattle.places.specs.code.Descent.{next, digit, below, descended, reached, digits}
 use Rattle.places.specs.declared.Reached.{Reached}
 use Rattle.places.specs.declared.Reached.the-variants.{Ends, Astray}
-
-module _ (n : ℕ) (xs : List ℕ) (i : ℕ) where
-  pub look-in : i < n → getD xs i 0 ≡ look n xs i
-  unfolding look
-  look-in h = simp (lt-ltb i n h)
-
-  pub look-out : n ≤ i → 0 ≡ look n xs i
-  unfolding look
-  look-out h = simp (le-ltb i n h)
 
 -- a term with subterms is one of the column's
 pub inside : (ks : List ℕ) (i : ℕ) → (subterms (look 1024 ks i) ≡ 0 → ⊥) → i < 1024

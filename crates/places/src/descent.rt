@@ -1,12 +1,13 @@
 // Following terms downward: from a term to one of its subterms, a digit a step.
 use crate::Reached;
 use crate::Step;
-use frames::subterms;
+use kinds::subterms;
 ghost use mathlib.Core.Path.{_≡_};
 ghost use Prim.Native.Nat.{_-_, _≤_, _<_};
 ghost use lib.Seq.{sets};
-ghost use Rattle.places.specs.Code as code;
-ghost use Rattle.places.specs.Code.{look, descended, reached, digits};
+ghost use Rattle.places.specs.code.Descent as code;
+ghost use Rattle.columns.specs.words.Columns.{look};
+ghost use Rattle.places.specs.code.Descent.{descended, reached, digits};
 
 // Writes the digits from term `from`, which stands at a depth, down to term `to`, up to so many in all;
 // nothing is written where there is no such way.

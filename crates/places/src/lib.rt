@@ -9,8 +9,9 @@ use descent::wide;
 ghost use mathlib.Core.Path.{_≡_};
 ghost use Prim.Native.Nat.{_≤_};
 ghost use lib.Seq.{sets};
-ghost use Rattle.places.specs.Code as code;
-ghost use Rattle.places.specs.Code.{answer, columns, digits, literal-path, reached, path-of, event-of};
+ghost use Rattle.places.specs.code.Descent as code;
+ghost use Rattle.places.specs.code.Descent.{answer, digits, literal-path, reached, path-of, event-of};
+ghost use Rattle.columns.specs.words.Columns.{columns};
 
 const PREFIX: u8 = 2;
 

@@ -8,13 +8,13 @@ use native.Mathlib.Numerals.{add-one}
 use lib.ListN.{getD, set}
 use borrow.Author.Tests.{lt-ltb, le-ltb, eq-eqb, ne-eqb}
 use Rattle.frames.specs.TableFrame.{term-room, definition-room}
-use Rattle.frames.specs.Kind as Kind
-use Rattle.frames.specs.Kind.{subterms}
-use Rattle.frames.proofs.KindLaws.{subterms-most}
-use Rattle.places.specs.Code.{look}
-use Rattle.plans.specs.Plan.{word}
-use Rattle.plans.specs.Laid.{put, operand-of, second-of, own-words, through, inward, told, laid}
-use Rattle.plans.specs.Laid.{turns, laid-out}
+use Rattle.kinds.specs.Kind as Kind
+use Rattle.kinds.specs.Kind.{subterms}
+use Rattle.kinds.proofs.KindLaws.{subterms-most}
+use Rattle.columns.specs.words.Columns.{look}
+use Rattle.plans.specs.words.Plan.{word}
+use Rattle.plans.specs.code.Laid.{put, operand-of, second-of, own-words, through, inward, told, laid}
+use Rattle.plans.specs.code.Laid.{turns, laid-out}
 use Rattle.plans.proofs.Laws.{word-in}
 
 module _ (k t v : ℕ) (w : List ℕ) where

@@ -12,18 +12,19 @@ use lib.Dec.{ltb}
 use borrow.Author.Tests.{ltb-true, ltb-false}
 use Rattle.frames.specs.TableFrame.{term-room, definition-room}
 use Rattle.tables.specs.Table.{Item, Sofar, accepted, judged}
-use Rattle.tables.specs.Columns.{column, kinds, owners, afters, roots}
+use Rattle.tables.specs.words.Columns.{column, kinds, owners, afters, roots}
 use Rattle.terms.specs.Term.{Term, leaf, prefix, binary, size, flat, starts, definitions-of}
 use Rattle.terms.proofs.Trees.{flat-length, checked-trees}
 use Rattle.terms.proofs.Held.{column-at, checked-holds}
 use Rattle.places.specs.Place.{path-in, term-at, IsPrefix, PrefixAt, event-path}
-use Rattle.places.specs.Code.{Columns, look, literal-definition, literal-path, told, answer, columns}
+use Rattle.columns.specs.words.Columns.{Columns, look, columns}
+use Rattle.places.specs.code.Descent.{literal-definition, literal-path, told, answer}
 use Rattle.places.specs.declared.Literal.{Literal}
 use Rattle.places.specs.declared.Literal.the-variants.{Own, Event}
 use Rattle.places.specs.declared.Placed.the-variants.{Nowhere}
-use Rattle.places.proofs.Ways.{look-in, look-out}
+use Rattle.columns.proofs.Laws.{look-in, look-out}
 use Rattle.places.proofs.Laws.{checked-roots, event-nowhere, own-past, event-past}
-use Rattle.plans.specs.Laid.{found, place-of, layout}
+use Rattle.plans.specs.words.Layout.{found, place-of, layout}
 use Rattle.plans.proofs.LaidPlaces.{definition-sited, event-of-definition}
 use Rattle.plans.proofs.LaidTable.{root-is}
 

@@ -10,18 +10,19 @@ use native.Mathlib.Nat.{add-zero, add-assoc}
 use lib.ListN.{getElem?}
 use Rattle.frames.specs.TableFrame.{definition-room}
 use Rattle.tables.specs.Table.{Sofar, accepted, judged}
-use Rattle.tables.specs.Columns.{roots}
+use Rattle.tables.specs.words.Columns.{roots}
 use Rattle.terms.specs.Term.{Term, prefix, size, definitions-of}
 use Rattle.terms.proofs.Held.{size-some}
 use Rattle.places.specs.Place.{Place, path-in, term-at, PrefixAt, event-path}
-use Rattle.places.specs.Code.{Columns, look, literal-definition, told, answer}
+use Rattle.columns.specs.words.Columns.{Columns, look}
+use Rattle.places.specs.code.Descent.{literal-definition, told, answer}
 use Rattle.places.specs.declared.Literal.{Literal}
 use Rattle.places.specs.declared.Literal.the-variants.{Own, Event}
 use Rattle.places.proofs.Sides.{Side, side-inside, side-at, path-root, prefix-inside}
 use Rattle.places.proofs.Laws.{Answers, own-answered, event-answered, checked-roots}
-use Rattle.report.specs.Process.{below}
-use Rattle.plans.specs.Plan.{Layout}
-use Rattle.plans.specs.Laid.{found, place-of, layout}
+use Rattle.rules.specs.Process.{below}
+use Rattle.plans.specs.words.Plan.{Layout}
+use Rattle.plans.specs.words.Layout.{found, place-of, layout}
 
 -- a tree's numbers stand at the paths below w in definition d
 abbrev pub Sited : Layout → ℕ → ℕ → List ℕ → Term → Type 0

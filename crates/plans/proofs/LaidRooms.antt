@@ -11,21 +11,21 @@ use native.Mathlib.Omega.{arith}
 use lib.ListN.{length, getD, getElem?, set, replicate, length-append}
 use lib.Dec.{ltb, eqb}
 use Rattle.lines.specs.Line.{choose}
-use Rattle.frames.specs.Kind as Kind
-use Rattle.frames.specs.Kind.{subterms}
+use Rattle.kinds.specs.Kind as Kind
+use Rattle.kinds.specs.Kind.{subterms}
 use Rattle.frames.specs.TableFrame.{term-room, path-room, definition-room}
 use Rattle.tables.specs.Table.{Sofar, accepted, judged}
-use Rattle.tables.specs.Columns.{kinds, owners, afters, roots}
+use Rattle.tables.specs.words.Columns.{kinds, owners, afters, roots}
 use Rattle.terms.specs.Term.{Term, starts, definitions-of}
 use Rattle.terms.proofs.Trees.{checked-trees}
 use Rattle.places.specs.Place.{left-path}
-use Rattle.places.specs.Code.{Columns, columns, look, below, descended, digits, path-of, with-event, event-of}
-use Rattle.places.specs.Code.{literal-path}
+use Rattle.columns.specs.words.Columns.{Columns, columns, look}
+use Rattle.places.specs.code.Descent.{below, descended, digits, path-of, with-event, event-of, literal-path}
 use Rattle.places.specs.declared.Literal.{Literal}
 use Rattle.places.specs.declared.Literal.the-variants.{Left, Own, Event}
-use Rattle.plans.specs.Plan.{word, around}
-use Rattle.plans.specs.Laid.{put, own-words, through, inward, told, laid, turns, laid-out, found}
-use Rattle.plans.specs.Laid.{place-of, layout}
+use Rattle.plans.specs.words.Plan.{word, around}
+use Rattle.plans.specs.code.Laid.{put, own-words, through, inward, told, laid, turns, laid-out}
+use Rattle.plans.specs.words.Layout.{found, place-of, layout}
 use Rattle.plans.proofs.LaidTurn.{at, put-other}
 use Rattle.plans.proofs.LaidTable.{root-is}
 

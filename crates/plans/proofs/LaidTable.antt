@@ -9,15 +9,17 @@ use native.Mathlib.Omega.{arith}
 use lib.ListN.{length, getD, getElem?, getD-replicate, List·getD-append}
 use Rattle.frames.specs.TableFrame.{definition-room}
 use Rattle.tables.specs.Table.{Sofar, accepted, judged}
-use Rattle.tables.specs.Columns.{column, kinds, payloads, afters, roots}
-use Rattle.terms.specs.Term.{Term, size, flat, starts, definitions-of, Holds}
+use Rattle.tables.specs.words.Columns.{column, kinds, payloads, afters, roots}
+use Rattle.terms.specs.Term.{Term, size, flat, starts, definitions-of}
+use Rattle.terms.specs.words.Held.{Holds}
 use Rattle.terms.proofs.Trees.{flat-length, each-at, checked-trees}
 use Rattle.terms.proofs.Held.{Forest, checked-holds}
-use Rattle.places.specs.Code.{look}
-use Rattle.places.proofs.Ways.{look-in}
-use Rattle.plans.specs.Plan.{Planned}
-use Rattle.plans.specs.Plan as Plan
-use Rattle.plans.specs.Laid.{turns, laid-out, layout}
+use Rattle.columns.specs.words.Columns.{look}
+use Rattle.columns.proofs.Laws.{look-in}
+use Rattle.plans.specs.words.Plan.{Planned}
+use Rattle.plans.specs.words.Plan as Plan
+use Rattle.plans.specs.code.Laid.{turns, laid-out}
+use Rattle.plans.specs.words.Layout.{layout}
 use Rattle.plans.proofs.Laid.{turns-all}
 use Rattle.plans.proofs.LaidPlaces.{sited-root, definition-sited, definition-evented}
 use Rattle.plans.proofs.LaidTrees.{tree-planned, forest-at}

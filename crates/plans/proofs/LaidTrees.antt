@@ -9,22 +9,23 @@ use native.Mathlib.Omega.{arith}
 use native.Mathlib.Numerals.{add-one}
 use lib.ListN.{getD, getElem?}
 use Rattle.frames.specs.TableFrame.{term-room, definition-room, event-room}
-use Rattle.frames.specs.Kind as Kind
-use Rattle.frames.specs.Kind.{subterms}
+use Rattle.kinds.specs.Kind as Kind
+use Rattle.kinds.specs.Kind.{subterms}
 use Rattle.terms.specs.Term.{Leaf, call, SKIP, STOP, leaf-kind, leaf-payload, Operator, internal, external}
 use Rattle.terms.specs.Term.{sequence, parallel, operator-kind, Term, leaf, prefix, binary, size, starts}
-use Rattle.terms.specs.Term.{Within, Holds}
+use Rattle.terms.specs.Term.{Within}
+use Rattle.terms.specs.words.Held.{Holds}
 use Rattle.terms.proofs.Trees.{leaf-subterms, operator-subterms}
 use Rattle.terms.proofs.Held.{size-some, holds-behind, Forest}
-use Rattle.places.specs.Code.{look}
-use Rattle.places.proofs.Ways.{look-in}
+use Rattle.columns.specs.words.Columns.{look}
+use Rattle.columns.proofs.Laws.{look-in}
 use Rattle.places.proofs.Sides.{only, first, second}
-use Rattle.plans.specs.Plan.{word, Layout, first-around, second-around, Leads, Planned}
-use Rattle.plans.specs.Laid.{operand-of, second-of, through, inward, turns}
+use Rattle.plans.specs.words.Plan.{word, Layout, first-around, second-around, Leads, Planned}
+use Rattle.plans.specs.code.Laid.{operand-of, second-of, through, inward, turns}
 use Rattle.plans.proofs.Laws.{word-in}
 use Rattle.plans.proofs.Laid.{operand-prefix, operand-call, second-two, second-none}
-use Rattle.plans.proofs.LaidTurn.{at, laid-keeps, laid-kind, laid-operand, laid-second}
-use Rattle.plans.proofs.LaidTurn.{first-told, second-told, turns-length}
+use Rattle.plans.proofs.LaidTurn.{at, laid-keeps, laid-kind, laid-operand, laid-second, first-told}
+use Rattle.plans.proofs.LaidTurn.{second-told, turns-length}
 use Rattle.plans.proofs.LaidPlaces.{Sited, sited-side, sited-below, Evented, evented-root}
 use Rattle.plans.proofs.LaidPlaces.{evented-side}
 

@@ -10,9 +10,9 @@ use lib.Seq.{getD-set-same, getD-set-other}
 use lib.Dec.{ltb}
 use Rattle.lines.specs.Line.{choose}
 use Rattle.frames.specs.TableFrame.{term-room}
-use Rattle.frames.specs.Kind.{subterms}
-use Rattle.plans.specs.Plan.{around}
-use Rattle.plans.specs.Laid.{put, own-words, through, inward, told, laid, turns}
+use Rattle.kinds.specs.Kind.{subterms}
+use Rattle.plans.specs.words.Plan.{around}
+use Rattle.plans.specs.code.Laid.{put, own-words, through, inward, told, laid, turns}
 use Rattle.plans.proofs.Laid.{put-in}
 
 -- a plan's word number p

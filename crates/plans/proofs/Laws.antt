@@ -5,7 +5,7 @@ use mathlib.Core.List.{List}
 use lib.ListN.{getD}
 use borrow.Author.Tests.{lt-ltb, le-ltb}
 use Rattle.frames.specs.TableFrame.{term-room}
-use Rattle.plans.specs.Plan.{word}
+use Rattle.plans.specs.words.Plan.{word}
 
 module _ (k : ℕ) (w : List ℕ) (t : ℕ) where
   pub word-in : t < term-room → getD w (4 * t + k) 0 ≡ word k w t

@@ -1,4 +1,4 @@
 -- Plans of tables: `Plan` is a plan, word by word, and what it is to hold a table's terms; `Laid` the one that
 -- is laid out from a table's columns, and where the table's terms stand.
-pub mod Plan
-pub mod Laid
+pub mod words
+pub mod code

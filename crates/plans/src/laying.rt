@@ -1,10 +1,10 @@
 // The plan of a table laid out from the columns of its check, a term at a time: its own words are its kind,
 // its operand and its second subterm, and it tells its subterms which sequence is around them.
-use frames::subterms;
+use kinds::subterms;
 ghost use mathlib.Core.Path.{_≡_};
 ghost use Prim.Native.Nat.{_<_};
-ghost use Rattle.places.specs.Code.{look};
-ghost use Rattle.plans.specs.Laid as of;
+ghost use Rattle.columns.specs.words.Columns.{look};
+ghost use Rattle.plans.specs.code.Laid as of;
 
 const TERMS: usize = 1024;
 

@@ -6,7 +6,7 @@ mod laying;
 pub use laying::lay_out;
 ghost use mathlib.Core.Path.{_≡_};
 ghost use Prim.Native.Nat.{_<_};
-ghost use Rattle.plans.specs.Plan as of;
+ghost use Rattle.plans.specs.words.Plan as of;
 
 const TERMS: usize = 1024;
 

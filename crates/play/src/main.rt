@@ -5,8 +5,8 @@ mod telling;
 
 use inputs::table_end;
 use plans::lay_out;
-use runs::Played;
-use runs::play;
+use playing::Played;
+use playing::play;
 use runs::start;
 use tables::Checked;
 use tables::Counts;

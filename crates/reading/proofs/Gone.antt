@@ -6,20 +6,20 @@ use mathlib.Core.List.{List, [], _∷_, _++_, append-assoc}
 use native.Mathlib.Omega.{arith}
 use lib.ListN.{replicate}
 use lib.Seq.{sets}
-use Rattle.report.specs.Track.{Pair}
-use Rattle.control.specs.Words.{track-words}
-use Rattle.tracks.specs.Graph.{Graph}
-use Rattle.tracks.specs.Parsed.{Due, a-node, an-arc, a-meeting, the-last, dues, nothing, says, refused}
-use Rattle.tracks.specs.Parsed.{Parsed, parsed}
-use Rattle.walks.specs.Columns.{flat}
-use Rattle.parsing.specs.Found.{marks-of}
-use Rattle.parsing.specs.Phases.{labelled, due-of, with-pairs, ahead, Counted, Begun}
-use Rattle.parsing.specs.Phases.{NodesRead, NodesTold, PairsRead, PairsTold, EndTold, LastTold}
+use Rattle.rules.specs.Track.{Pair}
+use Rattle.control.specs.words.Words.{track-words}
+use Rattle.graphs.specs.Graph.{Graph}
+use Rattle.graphs.specs.Parsed.{Due, a-node, an-arc, a-meeting, the-last, dues, nothing, says, refused}
+use Rattle.graphs.specs.Parsed.{Parsed, parsed}
+use Rattle.links.specs.words.Columns.{flat}
+use Rattle.finding.specs.code.Found.{marks-of}
+use Rattle.parsing.specs.code.Phases.{labelled, due-of, with-pairs, ahead, Counted, Begun, NodesRead}
+use Rattle.parsing.specs.code.Phases.{NodesTold, PairsRead, PairsTold, EndTold, LastTold}
 use Rattle.parsing.specs.declared.Opened.{Opened}
 use Rattle.parsing.specs.declared.Opened.the-variants.{Track, Fails}
 use Rattle.parsing.specs.declared.Lines.{Lines}
 use Rattle.parsing.specs.declared.Lines.the-variants.{Goes, Stops}
-use Rattle.reading.specs.Outcome.{Held, answer, failed, stopped}
+use Rattle.reading.specs.code.Outcome.{Held, answer, failed, stopped}
 use Rattle.reading.specs.declared.Read.{Read}
 use Rattle.reading.specs.declared.Read.the-variants.{Accepted, Refused}
 

@@ -16,34 +16,35 @@ use Rattle.lines.specs.Line.{choose}
 use Rattle.lines.proofs.Digits.{both}
 use Rattle.frames.specs.TableFrame.{term-room, definition-room}
 use Rattle.tables.specs.Table.{Sofar, judged, accepted}
-use Rattle.tables.specs.Columns.{kinds, payloads, afters, roots}
+use Rattle.tables.specs.words.Columns.{kinds, payloads, afters, roots}
 use Rattle.tables.proofs.Whole.{zeros-column}
-use Rattle.terms.specs.Term.{Term, leaf, prefix, binary, Holds, definitions-of}
+use Rattle.terms.specs.Term.{Term, leaf, prefix, binary, definitions-of}
+use Rattle.terms.specs.words.Held.{Holds}
 use Rattle.terms.proofs.Trees.{checked-trees}
 use Rattle.terms.proofs.Held.{column-at, checked-holds}
 use Rattle.places.specs.Place.{Place, left-path, term-at, IsPrefix, Literal, own, event, literal-at}
-use Rattle.places.specs.Code.{look}
-use Rattle.places.proofs.Ways.{look-in, look-out}
+use Rattle.columns.specs.words.Columns.{look}
+use Rattle.columns.proofs.Laws.{look-in, look-out}
 use Rattle.places.proofs.Sides.{prefix-inside}
 use Rattle.places.proofs.Laws.{own-only, event-only, left-apart, holds-at}
-use Rattle.report.specs.Track.{Label, lookup}
-use Rattle.plans.specs.Plan.{Layout}
-use Rattle.plans.specs.Laid.{layout}
+use Rattle.rules.specs.Track.{Label, lookup}
+use Rattle.plans.specs.words.Plan.{Layout}
+use Rattle.plans.specs.words.Layout.{layout}
 use Rattle.plans.proofs.LaidPlaces.{definition-sited, event-of-definition}
-use Rattle.control.specs.Words.{reference-room}
-use Rattle.stepping.specs.Views.{place-told}
-use Rattle.tracks.specs.Graph.{Graph}
-use Rattle.tracks.specs.Shape.{same, every, in-order, in-definition, in-term, there, literal-of, placed}
-use Rattle.tracks.specs.Shape.{event-of-term, event-of-literal, event-of}
-use Rattle.tracks.specs.Shape as Shape
-use Rattle.tracks.proofs.Spelled.{each-none, each-first}
-use Rattle.tracks.proofs.References.{same-true}
-use Rattle.walks.specs.Columns.{at}
-use Rattle.walks.specs.Walked.{laid}
+use Rattle.control.specs.words.Words.{reference-room}
+use Rattle.control.specs.words.Views.{place-told}
+use Rattle.graphs.specs.Graph.{Graph}
+use Rattle.graphs.specs.Shape.{same, every, in-order, in-definition, in-term, there, literal-of, placed}
+use Rattle.graphs.specs.Shape.{event-of-term, event-of-literal, event-of}
+use Rattle.graphs.specs.Shape as Shape
+use Rattle.graphs.proofs.Spelled.{each-none, each-first}
+use Rattle.graphs.proofs.References.{same-true}
+use Rattle.links.specs.words.Columns.{at}
+use Rattle.walks.specs.code.Walked.{laid}
 use Rattle.walks.proofs.Telling.{mark-told, Telling}
-use Rattle.parsing.specs.Found.{find, mark-of, marks-of}
-use Rattle.parsing.proofs.FoundLaws.{mark-of-literal, marks-length, listed, find-literal, DefinitionsBelow}
-use Rattle.shapes.specs.Rules.{is-event, event-at, one-event}
+use Rattle.finding.specs.code.Found.{find, mark-of, marks-of}
+use Rattle.finding.proofs.FoundLaws.{mark-of-literal, marks-length, listed, find-literal, DefinitionsBelow}
+use Rattle.shapes.specs.code.Rules.{is-event, event-at, one-event}
 
 -- the event that a mark tells, none where it is no event's
 unfoldable event-told : List ℕ → ℕ → Option ℕ

@@ -8,22 +8,22 @@ use mathlib.Core.List.{List}
 use native.Mathlib.Omega.{arith}
 use lib.ListN.{length, length-replicate}
 use Rattle.lines.specs.Line.{choose}
-use Rattle.report.specs.Run.{node-room, arc-room, meeting-room}
-use Rattle.control.specs.Words.{track-words}
-use Rattle.stepping.specs.Views.{pairs}
+use Rattle.rules.specs.Run.{node-room, arc-room, meeting-room}
+use Rattle.control.specs.words.Words.{track-words}
+use Rattle.control.specs.words.Views.{pairs}
 use Rattle.terms.specs.Term.{definitions-of}
-use Rattle.tracks.specs.Graph.{Graph}
-use Rattle.tracks.specs.Parsed.{Parsed, says, refused}
-use Rattle.tracks.specs.Shape as Shape
-use Rattle.walks.specs.declared.Counts.{Counts}
-use Rattle.walks.specs.Columns.{counts-of}
-use Rattle.walks.specs.Walked.{laid}
-use Rattle.numbering.proofs.Listed.{arcs-back, meetings-back}
-use Rattle.parsing.specs.Found.{marks-of}
-use Rattle.parsing.proofs.FoundLaws.{marks-length}
-use Rattle.shapes.specs.Rules.{shaped}
-use Rattle.reading.specs.Outcome.{judged, outcome, labels-left, graph-left, Held, answer, handed}
-use Rattle.reading.specs.Kept.{Reads}
+use Rattle.graphs.specs.Graph.{Graph}
+use Rattle.graphs.specs.Parsed.{Parsed, says, refused}
+use Rattle.graphs.specs.Shape as Shape
+use Rattle.links.specs.declared.Counts.{Counts}
+use Rattle.links.specs.words.Columns.{counts-of}
+use Rattle.walks.specs.code.Walked.{laid}
+use Rattle.links.proofs.Listed.{arcs-back, meetings-back}
+use Rattle.finding.specs.code.Found.{marks-of}
+use Rattle.finding.proofs.FoundLaws.{marks-length}
+use Rattle.shapes.specs.code.Rules.{shaped}
+use Rattle.reading.specs.code.Outcome.{judged, outcome, labels-left, graph-left, Held, answer, handed}
+use Rattle.reading.specs.words.Kept.{Reads}
 use Rattle.reading.specs.declared.Read.{Read}
 use Rattle.reading.specs.declared.Read.the-variants.{Accepted, Refused}
 use Rattle.reading.proofs.RuleLaws.{outcome-told}

@@ -13,26 +13,26 @@ use Rattle.lines.specs.Line.{choose}
 use Rattle.lines.proofs.Digits.{both}
 use Rattle.frames.specs.TableFrame.{path-room}
 use Rattle.tables.specs.Table.{Sofar, judged, accepted}
-use Rattle.tables.specs.Columns.{kinds, payloads, afters, roots}
+use Rattle.tables.specs.words.Columns.{kinds, payloads, afters, roots}
 use Rattle.terms.specs.Term.{Term, definitions-of}
 use Rattle.terms.proofs.Trees.{checked-trees}
-use Rattle.report.specs.Track.{Label, Pair}
-use Rattle.report.specs.Run.{node-room, arc-room}
-use Rattle.report.proofs.Marked.{one, tally}
-use Rattle.tracks.specs.Graph.{Graph}
-use Rattle.tracks.specs.Parsed.{Parsed, says, refused, parsed, in-range}
-use Rattle.tracks.specs.Shape.{same, every, in-order, placed, branches, ascends, upward, from-on}
-use Rattle.tracks.specs.Shape as Shape
-use Rattle.tracks.proofs.Spelled.{Each, each-none, each-first, LabelFits, says-text}
-use Rattle.walks.specs.Linked.{side-words, all-fit}
-use Rattle.walks.specs.Walked.{laid}
+use Rattle.rules.specs.Track.{Label, Pair}
+use Rattle.rules.specs.Run.{node-room, arc-room}
+use Rattle.rules.proofs.Marked.{one, tally}
+use Rattle.graphs.specs.Graph.{Graph}
+use Rattle.graphs.specs.Parsed.{Parsed, says, refused, parsed, in-range}
+use Rattle.graphs.specs.Shape.{same, every, in-order, placed, branches, ascends, upward, from-on}
+use Rattle.graphs.specs.Shape as Shape
+use Rattle.graphs.proofs.Spelled.{Each, each-none, each-first, LabelFits, says-text}
+use Rattle.links.specs.code.Linked.{side-words, all-fit}
+use Rattle.walks.specs.code.Walked.{laid}
 use Rattle.walks.proofs.Telling.{Telling}
 use Rattle.walks.proofs.LinkTold.{all-fit-told, walked-told}
-use Rattle.parsing.specs.Found.{marks-of}
-use Rattle.parsing.proofs.FoundLaws.{DefinitionsBelow, marks-shaped}
-use Rattle.shapes.specs.Rules.{as-walked, joins-events, shaped}
-use Rattle.reading.specs.Outcome.{outcome}
-use Rattle.reading.specs.Outcome as Outcome
+use Rattle.finding.specs.code.Found.{marks-of}
+use Rattle.finding.proofs.FoundLaws.{DefinitionsBelow, marks-shaped}
+use Rattle.shapes.specs.code.Rules.{as-walked, joins-events, shaped}
+use Rattle.reading.specs.code.Outcome.{outcome}
+use Rattle.reading.specs.code.Outcome as Outcome
 use Rattle.reading.proofs.MarksTold.{marks-telling, events-told}
 
 -- what is behind a test may be taken where it holds

@@ -1,3 +1,3 @@
 -- Saved tracks read: `Outcome` is what reading comes to, and `Kept` what it owes for the columns of a checked table.
-pub mod Outcome
-pub mod Kept
+pub mod words
+pub mod code

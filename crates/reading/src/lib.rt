@@ -1,5 +1,6 @@
 // Saved tracks read: a text's lines are read into columns, the reader's rules are tested on them, and an accepted graph is
 // handed over. It relies on the parts of the line reading and on the test of a graph's shape.
+use links::Counts;
 use parsing::Lines;
 use parsing::Opened;
 use parsing::first_line;
@@ -7,12 +8,11 @@ use parsing::last_lines;
 use parsing::read_nodes;
 use parsing::read_pairs;
 use shapes::has_shape;
-use walks::Counts;
 ghost use mathlib.Core.Path.{_≡_};
 ghost use lib.ListN.{replicate};
-ghost use Rattle.tracks.specs.Parsed.{parsed};
-ghost use Rattle.reading.specs.Outcome as of;
-ghost use Rattle.reading.specs.Kept.{Reads};
+ghost use Rattle.graphs.specs.Parsed.{parsed};
+ghost use Rattle.reading.specs.code.Outcome as of;
+ghost use Rattle.reading.specs.words.Kept.{Reads};
 
 // First bytes of frames.
 const ARC: u8 = 50;

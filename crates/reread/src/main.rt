@@ -2,11 +2,11 @@
 // refusal. All that it tells comes from the proved libraries; here it is only read and written.
 use inputs::table_end;
 use lines::characters;
+use links::Counts;
 use reading::Read;
 use reading::read_track;
 use tables::Checked;
 use tables::check;
-use walks::Counts;
 use writing::Saved;
 use writing::write;
 

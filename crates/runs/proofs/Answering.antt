@@ -11,22 +11,23 @@ use lib.ListN.{length}
 use lib.Dec.{eqb}
 use borrow.Author.Tests.{eq-eqb, ne-eqb}
 use Rattle.terms.specs.Term.{Term}
-use Rattle.report.specs.Process.{Event, τ, ✓, visible, Digit, one, two, three, four, Address}
-use Rattle.report.specs.Track.{Outcome}
-use Rattle.report.specs.Step.{Stepped as Come, stepped as come, step}
-use Rattle.report.specs.Run.{State, stands, after, within-room, whole, answer, goes-on}
-use Rattle.report.specs.Run as Run
-use Rattle.report.proofs.Derived.{step-exactly}
-use Rattle.plans.specs.Plan.{Layout}
-use Rattle.weighing.specs.Looking.{digit-at}
-use Rattle.weighing.specs.declared.Weighed.{Weighed}
-use Rattle.weighing.specs.declared.Weighed.the-variants.{Derived, Nothing}
+use Rattle.rules.specs.Process.{Event, τ, ✓, visible, Digit, one, two, three, four, Address}
+use Rattle.rules.specs.Track.{Outcome}
+use Rattle.rules.specs.Step.{Stepped as Come, stepped as come, step}
+use Rattle.rules.specs.Run.{State, stands, after, within-room, whole, answer, goes-on}
+use Rattle.rules.specs.Run as Run
+use Rattle.rules.proofs.Derived.{step-exactly}
+use Rattle.plans.specs.words.Plan.{Layout}
+use Rattle.looking.specs.code.Looking.{digit-at}
+use Rattle.weights.specs.declared.Weighed.{Weighed}
+use Rattle.weights.specs.declared.Weighed.the-variants.{Derived, Nothing}
 use Rattle.weighing.proofs.Told as Told
 use Rattle.weighing.proofs.Told.{number, From, weight-of, digit-none, from-left}
-use Rattle.runs.specs.Counting.{reference, cells as cell-count, arcs}
-use Rattle.runs.specs.Code.{start-weight, control-levels, Stepped, weight, refused, accepted, by-room}
-use Rattle.runs.specs.Code.{by-weight, stepped}
-use Rattle.runs.specs.Held.{Table, Holds, digit-of, addressed, told-event, told, behind, answered}
+use Rattle.counting.specs.code.Counting.{reference, cells as cell-count, arcs}
+use Rattle.runs.specs.code.Doors.{start-weight, control-levels, Stepped, weight, refused, accepted}
+use Rattle.runs.specs.code.Doors.{by-room, by-weight, stepped}
+use Rattle.runs.specs.words.Held.{Table, Holds, addressed, told-event, told, behind}
+use Rattle.rules.specs.Addressed.{digit-of, answered}
 use Rattle.runs.proofs.Reading.{address-reads, address-stops}
 use Rattle.runs.proofs.Stopping.{Stops, stops-either, reference-stops}
 use Rattle.runs.proofs.Rooms.{rooms-told}

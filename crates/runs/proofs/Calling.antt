@@ -12,30 +12,30 @@ use borrow.Author.Tests.{eqb-true}
 use Rattle.lines.specs.Line.{choose}
 use Rattle.terms.specs.Term.{Term}
 use Rattle.places.specs.Place.{Place, left-path}
-use Rattle.report.specs.Process.{τ, Address, main, untouched, right-side, rhs}
-use Rattle.report.specs.Track as Track
-use Rattle.report.specs.Step.{Stepped}
-use Rattle.report.specs.Run.{start, stands}
-use Rattle.report.proofs.Marked.{one-same}
-use Rattle.report.proofs.Holding.{held}
-use Rattle.plans.specs.Plan.{Layout}
-use Rattle.control.specs.Control.{label, state, resting, Untouched}
-use Rattle.control.specs.Control as Control
-use Rattle.weighing.proofs.Counts.{capped-small}
+use Rattle.rules.specs.Process.{τ, Address, main, untouched, right-side, rhs}
+use Rattle.rules.specs.Track as Track
+use Rattle.rules.specs.Step.{Stepped}
+use Rattle.rules.specs.Run.{start, stands}
+use Rattle.rules.proofs.Marked.{one-same}
+use Rattle.rules.proofs.Holding.{held}
+use Rattle.plans.specs.words.Plan.{Layout}
+use Rattle.control.specs.words.Control.{label, state, resting, Untouched}
+use Rattle.control.specs.words.Control as Control
+use Rattle.control.proofs.Capped.{capped-small}
 use Rattle.weighing.proofs.Told.{told, From, from-at}
-use Rattle.stepping.specs.Marks.{one-node, one-arc, drawn, labelled, standing}
-use Rattle.stepping.specs.Views.{place-told, marked}
-use Rattle.stepping.specs.Leaves.{called, on}
-use Rattle.taking.proofs.NodeViews.{standing-elsewhere, labelled-whole, labelled-elsewhere}
-use Rattle.taking.proofs.Writing.{Writes}
-use Rattle.taking.proofs.Going.{Goes}
-use Rattle.taking.proofs.Sideless.{Sideless, labelled-sideless, standing-sideless}
-use Rattle.taking.proofs.Parts.{on-to, one-on, Clean, on-writes, untouched-around, rests-holds, new-rests}
-use Rattle.runs.specs.Counting.{tally-of}
-use Rattle.runs.specs.Held.{Table, Holds}
+use Rattle.drawing.specs.code.Drawing.{one-node, one-arc, drawn, labelled, standing}
+use Rattle.control.specs.words.Views.{place-told, marked}
+use Rattle.leaves.specs.code.Leaves.{called, on}
+use Rattle.step_laws.proofs.NodeViews.{standing-elsewhere, labelled-whole, labelled-elsewhere}
+use Rattle.step_laws.proofs.Writing.{Writes}
+use Rattle.step_laws.proofs.Going.{Goes}
+use Rattle.step_laws.proofs.Sideless.{Sideless, labelled-sideless, standing-sideless}
+use Rattle.step_laws.proofs.Parts.{on-to, one-on, Clean, on-writes, untouched-around, rests-holds, new-rests}
+use Rattle.counting.specs.code.Counting.{tally-of}
+use Rattle.runs.specs.words.Held.{Table, Holds}
 use Rattle.runs.proofs.Weights.{rhs-cells}
 use Rattle.runs.proofs.Keeping.{run-words}
-use Rattle.report.specs.Track.{lookup}
+use Rattle.rules.specs.Track.{lookup}
 
 -- the left-hand side of definition 00
 abbrev left-side : Place

@@ -7,14 +7,14 @@ use native.Mathlib.Omega.{arith}
 use lib.ListN.{length, length-append}
 use Rattle.terms.specs.Term.{Term}
 use Rattle.places.specs.Place.{Place}
-use Rattle.report.specs.Process.{Address, Process}
-use Rattle.report.specs.Track.{At, Outcome, Entered, labelled, prefixed, first-eval, right-eval, around, jointly}
-use Rattle.report.specs.Track.{carried, started, ended}
-use Rattle.report.specs.Tracking.{Tracks, process-call, prefixing, skip, stop, internal-choice-1, internal-choice-2}
-use Rattle.report.specs.Tracking.{external-choice-1, external-choice-2, external-choice-3, external-choice-4}
-use Rattle.report.specs.Tracking.{sequential-composition-1, sequential-composition-2, synchronized-parallelism-1}
-use Rattle.report.specs.Tracking.{synchronized-parallelism-2, synchronized-parallelism-3}
-use Rattle.report.specs.Tracking.{synchronized-parallelism-4}
+use Rattle.rules.specs.Process.{Address, Process}
+use Rattle.rules.specs.Track.{At, Outcome, Entered, labelled, prefixed, first-eval, right-eval, around}
+use Rattle.rules.specs.Track.{jointly, carried, started, ended}
+use Rattle.rules.specs.Tracking.{Tracks, process-call, prefixing, skip, stop, internal-choice-1}
+use Rattle.rules.specs.Tracking.{internal-choice-2, external-choice-1, external-choice-2, external-choice-3}
+use Rattle.rules.specs.Tracking.{external-choice-4, sequential-composition-1, sequential-composition-2}
+use Rattle.rules.specs.Tracking.{synchronized-parallelism-1, synchronized-parallelism-2}
+use Rattle.rules.specs.Tracking.{synchronized-parallelism-3, synchronized-parallelism-4}
 
 -- a side's, with what entering it adds in front, and both sides'
 side-labelled : (own other : Option ℕ) (w : Place) (s : At) (r : Outcome) → length (r .met) ≤ length (r .labels)

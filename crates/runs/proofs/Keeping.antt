@@ -11,27 +11,27 @@ use native.Mathlib.Nat.{mod-eq-of-lt}
 use lib.ListN.{length, length-append}
 use borrow.Author.Tests.{ne-eqb}
 use Rattle.terms.specs.Term.{Term}
-use Rattle.report.specs.Process.{Address, Process, leaf, prefix, internal, split, sequence, Ω, ⊥′, cells}
-use Rattle.report.specs.Step.{Stepped}
-use Rattle.report.specs.Run.{State, after, Reached, goes-on, answer, accepted}
-use Rattle.report.proofs.Marked.{one}
-use Rattle.report.proofs.Holding.{held}
-use Rattle.report.proofs.Drawn.{rooms-hold, reached-kept, fresh-room}
-use Rattle.report.proofs.Climbing.{reached-climbed}
-use Rattle.plans.specs.Plan.{Layout}
-use Rattle.control.specs.Control.{state, resting}
-use Rattle.control.specs.Control as Control
+use Rattle.rules.specs.Process.{Address, Process, leaf, prefix, internal, split, sequence, Ω, ⊥′, cells}
+use Rattle.rules.specs.Step.{Stepped}
+use Rattle.rules.specs.Run.{State, after, Reached, goes-on, answer, accepted}
+use Rattle.rules.proofs.Marked.{one}
+use Rattle.rules.proofs.Holding.{held}
+use Rattle.rules.proofs.Drawn.{rooms-hold, reached-kept, fresh-room}
+use Rattle.rules.proofs.Climbing.{reached-climbed}
+use Rattle.plans.specs.words.Plan.{Layout}
+use Rattle.control.specs.words.Control.{state, resting}
+use Rattle.control.specs.words.Control as Control
 use Rattle.control.proofs.Chains.{holds-within}
 use Rattle.control.proofs.Framed.{untouched-held}
-use Rattle.offers.specs.Told.{stands}
-use Rattle.stepping.specs.Views.{arcs-of, meetings-of, first-of}
-use Rattle.stepping.specs.Leaves.{Done}
-use Rattle.taking.proofs.Sideless.{Sideless}
-use Rattle.taking.proofs.Writing.{Words, lookup-append}
-use Rattle.taking.proofs.Going.{Goes}
-use Rattle.runs.specs.Counting.{tally-of, narrow, recounted}
-use Rattle.runs.specs.Held.{Tells, Whole, Holds}
-use Rattle.report.specs.Track.{lookup}
+use Rattle.offers.specs.words.Told.{stands}
+use Rattle.control.specs.words.Views.{arcs-of, meetings-of, first-of}
+use Rattle.leaves.specs.code.Leaves.{Done}
+use Rattle.step_laws.proofs.Sideless.{Sideless}
+use Rattle.step_laws.proofs.Writing.{Words, lookup-append}
+use Rattle.step_laws.proofs.Going.{Goes}
+use Rattle.counting.specs.code.Counting.{tally-of, narrow, recounted}
+use Rattle.runs.specs.words.Held.{Tells, Whole, Holds}
+use Rattle.rules.specs.Track.{lookup}
 
 -- nothing is held at reference 0
 nowhere : (n b : ℕ) → b < n → one 0 n ≡ 0

@@ -4,8 +4,6 @@
 -- words behind a step; `Answering`, `step-answered` and `step-holds`; `Once`, one run in the
 -- same words; `Promises`, what the doors promise of a run; `Tabled`, that a checked table's plan is one of
 -- theirs.
-pub mod CountLaws
-pub mod DoorLaws
 pub mod Starting
 pub mod Reading
 pub mod Stopping
@@ -19,3 +17,4 @@ pub mod Answering
 pub mod Once
 pub mod Promises
 pub mod Tabled
+pub mod Laws

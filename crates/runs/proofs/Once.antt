@@ -6,11 +6,11 @@ use mathlib.Core.Path.{_≡_, sym, _∙_}
 use mathlib.Core.List.{List}
 use lib.ListN.{length}
 use Rattle.terms.specs.Term.{Term}
-use Rattle.report.specs.Process.{cells}
-use Rattle.report.specs.Run.{State}
-use Rattle.plans.specs.Plan.{Layout}
-use Rattle.runs.specs.Held.{Tells, Holds}
-use Rattle.report.specs.Track.{lookup}
+use Rattle.rules.specs.Process.{cells}
+use Rattle.rules.specs.Run.{State}
+use Rattle.plans.specs.words.Plan.{Layout}
+use Rattle.runs.specs.words.Held.{Tells, Holds}
+use Rattle.rules.specs.Track.{lookup}
 
 -- states with the same counters and the same track
 pub record Alike (s t : State) : Type 0 where

@@ -2,7 +2,7 @@
 -- of definition 00. Else it is what stepping's pass makes of the control at the current reference, by taking's `takes`;
 -- every run keeps that control ready for it: each reference is drawn and held once, its arcs
 -- climb, the table has what it calls, and what the step comes to has room. Assumes nothing.
-use Prim.Native.Nat.{ℕ, _+_, _≤_, _<_}
+use Prim.Native.Nat.{ℕ, _≤_, _<_}
 use mathlib.Core.Path.{_≡_, refl, sym, subst, _∙_}
 use mathlib.Core.Bool.{Bool, true, false}
 use mathlib.Core.List.{List, [], _∷_, _++_}
@@ -13,30 +13,29 @@ use lib.Dec.{eqb}
 use borrow.Author.Tests.{eqb-true, eqb-false}
 use Rattle.lines.specs.Line.{choose}
 use Rattle.terms.specs.Term.{Term}
-use Rattle.report.specs.Process.{Address, cells}
-use Rattle.report.specs.Track.{Outcome}
-use Rattle.report.specs.Tracking.{Tracks}
-use Rattle.report.specs.Step.{Stepped, step}
-use Rattle.report.specs.Run.{State, start, stands, after, Reached}
-use Rattle.report.proofs.Marked.{reached-marked}
-use Rattle.report.proofs.Holding.{reached-held}
-use Rattle.report.proofs.Drawn.{rooms-hold, reached-kept, fresh-room}
-use Rattle.report.proofs.Climbing.{reached-climbed}
-use Rattle.report.proofs.Ranged.{reached-ranged, ranged-calls}
-use Rattle.plans.specs.Plan.{Layout}
-use Rattle.control.specs.Control.{state, resting}
+use Rattle.rules.specs.Process.{Address, cells}
+use Rattle.rules.specs.Track.{Outcome}
+use Rattle.rules.specs.Tracking.{Tracks}
+use Rattle.rules.specs.Step.{Stepped, step}
+use Rattle.rules.specs.Run.{State, start, stands, after, Reached}
+use Rattle.rules.proofs.Marked.{reached-marked}
+use Rattle.rules.proofs.Holding.{reached-held}
+use Rattle.rules.proofs.Drawn.{rooms-hold, reached-kept, fresh-room}
+use Rattle.rules.proofs.Climbing.{reached-climbed}
+use Rattle.rules.proofs.Ranged.{reached-ranged, ranged-calls, Calls}
+use Rattle.plans.specs.words.Plan.{Layout}
+use Rattle.control.specs.words.Control.{state, resting}
 use Rattle.weighing.proofs.Told.{From, wrapped}
-use Rattle.stepping.specs.Take.{take}
-use Rattle.stepping.specs.Leaves.{Done, called}
-use Rattle.taking.proofs.Going.{at-words, Sound, Fits, Ready, Goes}
-use Rattle.report.proofs.Ranged.{Calls}
-use Rattle.taking.proofs.Sideless.{Sideless}
-use Rattle.taking.proofs.Nesting.{Went}
-use Rattle.taking.proofs.Depths.{needs-bound}
-use Rattle.taking.proofs.Taking.{takes}
-use Rattle.runs.specs.Counting.{tally-of}
-use Rattle.runs.specs.Code.{step-levels, performed}
-use Rattle.runs.specs.Held.{Table, Holds}
+use Rattle.stepping.specs.code.Take.{take}
+use Rattle.leaves.specs.code.Leaves.{Done, called}
+use Rattle.step_laws.proofs.Going.{at-words, Sound, Fits, Ready, Goes}
+use Rattle.step_laws.proofs.Sideless.{Sideless}
+use Rattle.step_laws.proofs.Nesting.{Went}
+use Rattle.step_laws.proofs.Depths.{needs-bound}
+use Rattle.step_laws.proofs.Taking.{takes}
+use Rattle.counting.specs.code.Counting.{tally-of}
+use Rattle.runs.specs.code.Doors.{step-levels, performed}
+use Rattle.runs.specs.words.Held.{Table, Holds}
 use Rattle.runs.proofs.Weights.{there-held}
 use Rattle.runs.proofs.FewMet.{met-labelled}
 use Rattle.runs.proofs.Keeping.{run-words, first-free}

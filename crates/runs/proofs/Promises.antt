@@ -3,10 +3,10 @@
 use Prim.Native.Nat.{ℕ}
 use mathlib.Core.Path.{_≡_, _∙_}
 use mathlib.Core.List.{List}
-use Rattle.runs.specs.Code.{fresh-nodes, fresh-track, fresh-counters, stepped}
-use Rattle.runs.specs.Held.{Keeps, Begins}
+use Rattle.runs.specs.code.Doors.{fresh-nodes, fresh-track, fresh-counters, stepped}
+use Rattle.runs.specs.words.Held.{Keeps, Begins}
 use Rattle.runs.specs.declared.Answer.{Answer}
-use Rattle.runs.proofs.DoorLaws.{Steps}
+use Rattle.runs.proofs.Laws.{Steps}
 use Rattle.runs.proofs.Starting.{start-holds}
 use Rattle.runs.proofs.Answering.{step-answered, step-holds}
 

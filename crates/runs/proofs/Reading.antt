@@ -9,10 +9,11 @@ use native.Mathlib.Omega.{arith}
 use lib.Dec.{eqb}
 use borrow.Author.Tests.{eqb-true, eqb-false}
 use Rattle.lines.specs.Line.{choose}
-use Rattle.report.specs.Process.{Digit, one, two, three, four, Address}
-use Rattle.weighing.specs.Looking.{digit-at}
+use Rattle.rules.specs.Process.{Digit, one, two, three, four, Address}
+use Rattle.looking.specs.code.Looking.{digit-at}
 use Rattle.weighing.proofs.Told.{number, From}
-use Rattle.runs.specs.Held.{digit-of, with-digit, address-from}
+use Rattle.rules.specs.Addressed.{digit-of, with-digit}
+use Rattle.runs.specs.words.Held.{address-from}
 
 -- a digit is told by its number
 digit-told : (n : ℕ) (d : Digit) → digit-of n ≡ some d → n ≡ number d

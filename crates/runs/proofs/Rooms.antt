@@ -8,14 +8,14 @@ use native.Mathlib.Omega.{arith}
 use lib.ListN.{length, length-append}
 use lib.Dec.{ltb}
 use borrow.Author.Tests.{ltb-true, ltb-false, lt-ltb, le-ltb}
-use Rattle.report.specs.Process.{Address, cells}
-use Rattle.report.specs.Track.{Outcome}
-use Rattle.report.specs.Run.{State, after, cell-room, node-room, arc-room, meeting-room}
-use Rattle.report.specs.Run as Run
-use Rattle.weighing.specs.Sums.{capped}
-use Rattle.weighing.proofs.Counts.{capped-least, capped-right}
+use Rattle.rules.specs.Process.{Address, cells}
+use Rattle.rules.specs.Track.{Outcome}
+use Rattle.rules.specs.Run.{State, after, cell-room, node-room, arc-room, meeting-room}
+use Rattle.rules.specs.Run as Run
+use Rattle.control.specs.words.Sums.{capped}
+use Rattle.control.proofs.Capped.{capped-least, capped-right}
 use Rattle.weighing.proofs.Told.{weight}
-use Rattle.runs.specs.Counting.{nodes, arcs, meetings, over-room}
+use Rattle.counting.specs.code.Counting.{nodes, arcs, meetings, over-room}
 
 -- a count passes a room where what it counts does
 capped-past : (room n : ℕ) → room < 65535 → ltb room (capped n) ≡ ltb room n

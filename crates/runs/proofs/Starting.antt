@@ -10,16 +10,16 @@ use lib.Dec.{ltb}
 use borrow.Author.Tests.{ltb-true, ltb-false}
 use Rattle.lines.specs.Line.{choose}
 use Rattle.terms.specs.Term.{Term}
-use Rattle.report.specs.Process.{cells}
-use Rattle.report.specs.Run.{start, begun}
-use Rattle.plans.specs.Plan.{Layout}
-use Rattle.control.specs.Words.{reference-room, node}
-use Rattle.offers.specs.Told.{starts}
-use Rattle.stepping.specs.Views.{pairs}
-use Rattle.taking.proofs.NodeViews.{marked-none}
-use Rattle.runs.specs.Code.{fresh-nodes, fresh-track, fresh-counters}
-use Rattle.runs.specs.Held.{Tells, Whole, Holds}
-use Rattle.report.specs.Track.{lookup}
+use Rattle.rules.specs.Process.{cells}
+use Rattle.rules.specs.Run.{start, begun}
+use Rattle.plans.specs.words.Plan.{Layout}
+use Rattle.control.specs.words.Words.{reference-room, node}
+use Rattle.offers.specs.words.Told.{starts}
+use Rattle.control.specs.words.Views.{pairs}
+use Rattle.step_laws.proofs.NodeViews.{marked-none}
+use Rattle.runs.specs.code.Doors.{fresh-nodes, fresh-track, fresh-counters}
+use Rattle.runs.specs.words.Held.{Tells, Whole, Holds}
+use Rattle.rules.specs.Track.{lookup}
 
 -- words that are all 0
 abbrev zeros : ℕ → List ℕ

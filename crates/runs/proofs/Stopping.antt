@@ -9,22 +9,23 @@ use native.Mathlib.Omega.{arith}
 use lib.Dec.{eqb, leb}
 use borrow.Author.Tests.{eqb-true, leb-true, leb-false}
 use Rattle.lines.specs.Line.{choose}
-use Rattle.frames.specs.Kind as Kind
-use Rattle.plans.specs.Plan.{kind, operand, second, around}
-use Rattle.control.specs.Words.{node}
-use Rattle.control.specs.Control.{state, term, resting, entered, at-end}
+use Rattle.kinds.specs.Kind as Kind
+use Rattle.plans.specs.words.Plan.{kind, operand, second, around}
+use Rattle.control.specs.words.Words.{node}
+use Rattle.control.specs.words.Control.{state, term, resting, entered, at-end}
 use Rattle.control.specs.declared.Event.{Event}
 use Rattle.control.specs.declared.Event.the-variants.{Tau, Tick, Visible}
-use Rattle.weighing.specs.Sums.{capped}
-use Rattle.weighing.specs.Rules.{step, started, settled, by-leaf, entering, end-of, barred, stays, resized}
-use Rattle.weighing.specs.Rules.{agree, one, both, ended}
-use Rattle.weighing.specs.Looking.{digit-at, is-split, is-side, is-within, set-of, weigh-end}
-use Rattle.weighing.specs.Weigh.{levels, by-digit, of-term, at-reference}
-use Rattle.weighing.specs.declared.Weight.{Weight}
-use Rattle.weighing.specs.declared.Weighed.{Weighed}
-use Rattle.weighing.specs.declared.Weighed.the-variants.{Derived, Nothing}
-use Rattle.weighing.proofs.Counts.{capped-least}
-use Rattle.runs.specs.Held.{digit-of}
+use Rattle.control.specs.words.Sums.{capped}
+use Rattle.weights.specs.code.Rules.{step, started, settled, by-leaf, entering, end-of, barred, stays}
+use Rattle.weights.specs.code.Rules.{resized, agree, one, both, ended}
+use Rattle.looking.specs.code.Looking.{digit-at, is-split, is-side, is-within, set-of}
+use Rattle.weighing.specs.code.Ending.{weigh-end}
+use Rattle.weighing.specs.code.Weigh.{levels, by-digit, of-term, at-reference}
+use Rattle.weights.specs.declared.Weight.{Weight}
+use Rattle.weights.specs.declared.Weighed.{Weighed}
+use Rattle.weights.specs.declared.Weighed.the-variants.{Derived, Nothing}
+use Rattle.control.proofs.Capped.{capped-least}
+use Rattle.rules.specs.Addressed.{digit-of}
 use Rattle.runs.proofs.Reading.{no-digit}
 
 -- a weight whose digits end at k at the latest

@@ -8,13 +8,14 @@ use mathlib.Core.Option.{none}
 use native.Mathlib.Omega.{arith}
 use lib.ListN.{length, getElem?}
 use Rattle.tables.specs.Table.{Sofar, accepted, judged}
-use Rattle.tables.specs.Columns.{kinds, payloads, afters, roots}
+use Rattle.tables.specs.words.Columns.{kinds, payloads, afters, roots}
 use Rattle.terms.specs.Term.{Term, definitions-of}
 use Rattle.terms.proofs.Trees.{each-at, checked-trees}
-use Rattle.plans.specs.Laid.{laid-out, layout}
+use Rattle.plans.specs.code.Laid.{laid-out}
+use Rattle.plans.specs.words.Layout.{layout}
 use Rattle.plans.proofs.LaidTable.{checked-planned}
 use Rattle.plans.proofs.LaidRooms.{layout-low, laid-out-numbered, layout-first}
-use Rattle.runs.specs.Held.{Table}
+use Rattle.runs.specs.words.Held.{Table}
 
 -- some definitions have a first
 has-first : (ts : List Term) → 0 < length ts → getElem? ts 0 ≡ none → ⊥

@@ -12,28 +12,28 @@ use lib.Dec.{eqb}
 use borrow.Author.Tests.{eqb-true, eqb-false}
 use Rattle.lines.specs.Line.{choose}
 use Rattle.terms.specs.Term.{Term}
-use Rattle.report.specs.Process.{Address, Process, main, cells, right-side}
-use Rattle.report.specs.Track.{Pair, labelled, parents}
-use Rattle.report.specs.Step.{step}
-use Rattle.report.specs.Run.{State, start, stands, cell-room, arc-room}
-use Rattle.report.proofs.Drawn.{rooms-hold, reached-kept}
-use Rattle.report.proofs.Climbing.{reached-climbed}
-use Rattle.plans.specs.Plan.{Layout}
-use Rattle.control.specs.Words.{track-word}
-use Rattle.control.specs.Control as Control
-use Rattle.weighing.specs.Weigh.{at-reference}
-use Rattle.weighing.specs.Looking as Looking
-use Rattle.weighing.proofs.Counts.{capped-small}
+use Rattle.rules.specs.Process.{Address, Process, main, cells, right-side}
+use Rattle.rules.specs.Track.{Pair, labelled, parents}
+use Rattle.rules.specs.Step.{step}
+use Rattle.rules.specs.Run.{State, start, stands, cell-room, arc-room}
+use Rattle.rules.proofs.Drawn.{rooms-hold, reached-kept}
+use Rattle.rules.proofs.Climbing.{reached-climbed}
+use Rattle.plans.specs.words.Plan.{Layout}
+use Rattle.control.specs.words.Words.{track-word}
+use Rattle.control.specs.words.Control as Control
+use Rattle.weighing.specs.code.Weigh.{at-reference}
+use Rattle.looking.specs.code.Looking as Looking
+use Rattle.control.proofs.Capped.{capped-small}
 use Rattle.weighing.proofs.Told as Told
 use Rattle.weighing.proofs.Told.{told, From, weight-of, from-at}
 use Rattle.weighing.proofs.Since.{Leads, counted, rooted-below}
 use Rattle.weighing.proofs.TermTold.{planned-levels, untouched-cells}
 use Rattle.weighing.proofs.ControlTold.{whole-told}
-use Rattle.offers.specs.Told.{Controls, starts, stands as stands-there}
-use Rattle.stepping.specs.Views.{pairs, arcs-of}
-use Rattle.runs.specs.Counting.{arcs}
-use Rattle.runs.specs.Code.{start-weight, control-levels, weight}
-use Rattle.runs.specs.Held.{Table, Holds}
+use Rattle.offers.specs.words.Told.{Controls, starts, stands as stands-there}
+use Rattle.control.specs.words.Views.{pairs, arcs-of}
+use Rattle.counting.specs.code.Counting.{arcs}
+use Rattle.runs.specs.code.Doors.{start-weight, control-levels, weight}
+use Rattle.runs.specs.words.Held.{Table, Holds}
 
 -- words that tell a run's arcs hold where each leads to
 pairs-lead : (g : List ℕ) (i n : ℕ) → Leads g i (pairs 0 g i n)

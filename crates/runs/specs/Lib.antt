@@ -1,4 +1,3 @@
 -- The doors of a run: `Counting` of its counters and rooms, and `Code` of what the doors come to.
-pub mod Counting
-pub mod Code
-pub mod Held
+pub mod words
+pub mod code

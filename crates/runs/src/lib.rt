@@ -1,7 +1,5 @@
-// Runs: started, stepped by an address, or by a line of a script. A step is weighed first, and only one that has a
-// derivation and fits the rooms is taken, so that a refused one leaves every word as it was.
-mod counting;
-
+// Runs: started, and stepped by an address. A step is weighed first, and only one that has a derivation and fits the rooms is
+// taken, so that a refused one leaves every word as it was.
 use control::Event;
 use counting::ARCS;
 use counting::CELLS;
@@ -10,21 +8,15 @@ use counting::counter;
 use counting::over_room;
 use counting::recount;
 use counting::tally_of;
-use scripts::Step;
-use scripts::next_step;
-use stepping::Taken;
-use stepping::call_start;
+use leaves::Taken;
+use leaves::call_start;
 use stepping::take;
-use weighing::Weighed;
-use weighing::Weight;
 use weighing::weigh_at;
+use weights::Weighed;
+use weights::Weight;
 ghost use mathlib.Core.Path.{_≡_};
-ghost use lib.ListN.{drop};
-ghost use lib.Seq as seq;
-ghost use Rattle.scripts.specs.Script.{left};
-ghost use Rattle.lines.specs.Line.{lines};
-ghost use Rattle.runs.specs.Code as spec;
-ghost use Rattle.runs.specs.Held.{Keeps, Begins};
+ghost use Rattle.runs.specs.code.Doors as spec;
+ghost use Rattle.runs.specs.words.Held.{Keeps, Begins};
 
 // How deep control and the terms below it are gone down to, at most: a control has at most 1,024 cells, and an
 // untouched term 64 levels, each of which a step may enter.
@@ -44,14 +36,6 @@ pub struct Shown {
 pub enum Answer {
     Accepted(Shown),
     Refused(u8),
-}
-
-// What a line of a script comes to: a step, with the next line from `next` on; the number of the refusal; or nothing,
-// at the end of the script.
-pub enum Played {
-    Stepped { event: Event, next: usize },
-    Refused(u8),
-    End,
 }
 
 // Starts a run: control is the call of definition 00 at reference 0, and nothing is marked yet.
@@ -192,51 +176,4 @@ fn perform(
         nodes,
         track,
     )
-}
-
-// Plays the line of a script that begins at `at`: its digits go to the front of `digits`, and the run takes its step.
-pub fn play(
-    text: &[u8],
-    at: usize,
-    digits: &mut [u8; 1024],
-    plan: &[u16; 4096],
-    sets: &[u64; 1024],
-    nodes: &mut [u16; 65544],
-    track: &mut [u16; 28672],
-    counters: &mut [u16; 8],
-) -> Played
-    ensures { λ r. ⌜ r ≡ spec.played (now (plan .entry)) (now (sets .entry)) (now (nodes .entry))
-        (now (track .entry)) (now (counters .entry)) at (lines (drop at (now (text .entry)))) (now (digits .entry)) .played ⌝ }
-    ensures { λ _. ⌜ now (nodes .exit) ≡ spec.played (now (plan .entry)) (now (sets .entry)) (now (nodes .entry))
-        (now (track .entry)) (now (counters .entry)) at (lines (drop at (now (text .entry)))) (now (digits .entry)) .nodes ⌝ }
-    ensures { λ _. ⌜ now (track .exit) ≡ spec.played (now (plan .entry)) (now (sets .entry)) (now (nodes .entry))
-        (now (track .entry)) (now (counters .entry)) at (lines (drop at (now (text .entry)))) (now (digits .entry)) .track ⌝ }
-    ensures { λ _. ⌜ now (counters .exit) ≡ spec.played (now (plan .entry)) (now (sets .entry)) (now (nodes .entry))
-        (now (track .entry)) (now (counters .entry)) at (lines (drop at (now (text .entry)))) (now (digits .entry)) .counters ⌝ }
-    ensures { λ _. ⌜ now (digits .exit)
-        ≡ seq.sets (now (digits .entry)) 0 (left (lines (drop at (now (text .entry))))) ⌝ }
-{
-    let line = next_step(text, at, digits);
-    let Step::Address { count, next } = line else {
-        return no_step(line);
-    };
-    let answer = step(count, digits, plan, sets, nodes, track, counters);
-    match answer {
-        Answer::Refused(number) => Played::Refused(number),
-        Answer::Accepted(shown) => {
-            let event = shown.event;
-            Played::Stepped { event, next }
-        }
-    }
-}
-
-// What a line that asks for no step comes to.
-fn no_step(line: Step) -> Played
-    ensures { λ r. ⌜ r ≡ spec.without-step line ⌝ }
-{
-    match line {
-        Step::Address { count: _, next: _ } => Played::End,
-        Step::Refused(number) => Played::Refused(number),
-        Step::End => Played::End,
-    }
 }

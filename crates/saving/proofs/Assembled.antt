@@ -4,17 +4,18 @@ use Prim.Native.Nat.{ℕ, min}
 use mathlib.Core.Path.{_≡_, ap, _∙_}
 use mathlib.Core.List.{List}
 use lib.ListN.{length}
-use Rattle.places.specs.Code.{columns}
-use Rattle.control.specs.Words.{reference-room}
-use Rattle.runs.specs.Counting.{fresh, arcs, meetings}
-use Rattle.tracks.specs.Saved.{graph-text}
-use Rattle.walks.specs.Walked.{laid}
-use Rattle.walks.specs.declared.Counts.{Counts}
-use Rattle.numbering.specs.Numbered.{order-by, arcs-by, meetings-by, labels-out, track-out}
-use Rattle.writing.specs.Told.{graph-told, answer, left}
+use Rattle.columns.specs.words.Columns.{columns}
+use Rattle.control.specs.words.Words.{reference-room}
+use Rattle.counting.specs.code.Counting.{fresh, arcs, meetings}
+use Rattle.graphs.specs.Saved.{graph-text}
+use Rattle.walks.specs.code.Walked.{laid}
+use Rattle.links.specs.declared.Counts.{Counts}
+use Rattle.numbering.specs.code.Numbered.{order-by, arcs-by, meetings-by, labels-out, track-out}
+use Rattle.framing.specs.words.Told.{graph-told}
+use Rattle.writing.specs.words.Slice.{answer, left}
 use Rattle.writing.specs.declared.Saved.{Saved}
-use Rattle.saving.specs.Code.{marks-from, marks, labels-saved, graph-saved, counts, text-of}
-use Rattle.saving.specs.Kept.{Saves}
+use Rattle.saving.specs.code.Saving.{marks-from, marks, labels-saved, graph-saved, counts, text-of}
+use Rattle.saving.specs.words.Kept.{Saves}
 use Rattle.saving.proofs.Promises.{saves}
 
 -- what the numbering gives, of so many arcs and meetings

@@ -8,10 +8,10 @@ use native.Mathlib.Omega.{arith}
 use lib.ListN.{length, getD, set, replicate}
 use borrow.Author.Tests.{lt-ltb}
 use Rattle.tables.proofs.Kept.{sets-snoc}
-use Rattle.control.specs.Words.{reference-room, node}
-use Rattle.control.specs.Control.{label}
-use Rattle.walks.specs.Walked.{laid}
-use Rattle.saving.specs.Code.{marks-from}
+use Rattle.control.specs.words.Words.{reference-room, node}
+use Rattle.control.specs.words.Control.{label}
+use Rattle.walks.specs.code.Walked.{laid}
+use Rattle.saving.specs.code.Saving.{marks-from}
 
 -- as many marks as references
 pub marks-length : (w : List ℕ) (k n : ℕ) → length (marks-from w k n) ≡ n

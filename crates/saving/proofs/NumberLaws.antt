@@ -16,24 +16,24 @@ use lib.Dec.{ltb, eqb, eqb·suc-zero, eqb·suc-suc}
 use borrow.Author.Tests.{eqb-true, eqb-false, eq-eqb, ltb-true, ltb-false, lt-ltb}
 use Rattle.lines.specs.Line.{choose}
 use Rattle.lines.proofs.Digits.{both}
-use Rattle.places.specs.Code.{look}
-use Rattle.places.proofs.Ways.{look-in}
-use Rattle.control.specs.Words.{reference-room}
-use Rattle.report.specs.Track.{Pair, pair}
-use Rattle.report.proofs.Offered.{or-left, or-right, or-either}
-use Rattle.report.proofs.Weighed.{arc, between, share-is, sum}
-use Rattle.tracks.specs.Graph.{joins}
-use Rattle.tracks.specs.Walk.{among}
-use Rattle.tracks.proofs.Walking.{Distinct, Within, among-first, among-cases, among-none, among-neither}
-use Rattle.tracks.proofs.Walking.{within-rest}
-use Rattle.tracks.proofs.References.{number-in, number-there, number-again}
-use Rattle.tracks.proofs.References.{element-there, element-inside, element-among}
-use Rattle.tracks.proofs.Pairs.{agree, joins-append}
-use Rattle.tracks.proofs.Rows.{tested}
-use Rattle.walks.specs.Columns.{at}
-use Rattle.walks.specs.Walked.{numbers-from, numbers}
-use Rattle.numbering.specs.Numbered.{renumbered-one, renumbered}
-use Rattle.numbering.proofs.Ordering.{times}
+use Rattle.columns.specs.words.Columns.{look}
+use Rattle.columns.proofs.Laws.{look-in}
+use Rattle.control.specs.words.Words.{reference-room}
+use Rattle.rules.specs.Track.{Pair, pair}
+use Rattle.rules.proofs.Offered.{or-left, or-right, or-either}
+use Rattle.rules.proofs.Weighed.{arc, between, share-is, sum}
+use Rattle.graphs.specs.Graph.{joins}
+use Rattle.graphs.specs.Walk.{among}
+use Rattle.graphs.proofs.Walking.{Distinct, Within, among-first, among-cases, among-none, among-neither}
+use Rattle.graphs.proofs.Walking.{within-rest}
+use Rattle.graphs.proofs.References.{number-in, number-there, number-again, element-there, element-inside}
+use Rattle.graphs.proofs.References.{element-among}
+use Rattle.graphs.proofs.Pairs.{agree, joins-append}
+use Rattle.graphs.proofs.Rows.{tested}
+use Rattle.links.specs.words.Columns.{at}
+use Rattle.walks.specs.code.Walked.{numbers-from, numbers}
+use Rattle.pairing.specs.code.Renumbered.{renumbered-one, renumbered}
+use Rattle.sorting.proofs.Ordering.{times}
 
 -- a word that is put in a column is read, and any other stays
 at-same : (w : List ℕ) (n v : ℕ) → n < reference-room → length w ≡ reference-room → at (set w n v) n ≡ v

@@ -15,43 +15,46 @@ use lib.Dec.{leb, ltb, eqb}
 use borrow.Author.Tests.{eqb-true, eqb-false, ltb-true, ltb-false, le-leb, lt-leb}
 use Rattle.lines.specs.Line.{choose}
 use Rattle.tables.specs.Table.{Sofar, accepted, judged}
-use Rattle.tables.specs.Columns.{kinds, owners, afters, roots}
+use Rattle.tables.specs.words.Columns.{kinds, owners, afters, roots}
 use Rattle.terms.specs.Term.{definitions-of}
 use Rattle.places.specs.Place.{left-path}
-use Rattle.places.specs.Code.{Columns, columns, literal-path, literal-definition}
+use Rattle.columns.specs.words.Columns.{Columns, columns}
+use Rattle.places.specs.code.Descent.{literal-path, literal-definition}
 use Rattle.places.specs.declared.Literal.the-variants.{Left, Own, Event}
-use Rattle.places.proofs.Ways.{look-in, look-out}
-use Rattle.control.specs.Words.{reference-room, track-words}
-use Rattle.report.specs.Track.{Label, Pair, lookup}
-use Rattle.report.specs.Run.{arc-room, meeting-room}
-use Rattle.report.proofs.Marked.{tally}
-use Rattle.report.proofs.Weighed.{between}
-use Rattle.plans.specs.Laid.{layout, place-of, found}
-use Rattle.stepping.specs.Views.{place-told}
-use Rattle.tracks.specs.Graph.{Graph, joins, meets}
-use Rattle.tracks.specs.Walk.{among, order}
-use Rattle.tracks.specs.Saved.{placed, numbered, canonical}
-use Rattle.tracks.specs.Shape.{every, branches, ascends}
-use Rattle.tracks.proofs.Walking.{Within, among-first, within-rest, distinct-below}
-use Rattle.tracks.proofs.Ordered.{order-distinct, order-labelled}
-use Rattle.tracks.proofs.Pairs.{ascending-same}
-use Rattle.tracks.proofs.Rows.{tested}
-use Rattle.tracks.proofs.Counted.{joins-between}
-use Rattle.tracks.proofs.Canonical.{canonical-arcs, canonical-arcs-ascend, canonical-arcs-few}
-use Rattle.tracks.proofs.Canonical.{canonical-meetings, canonical-meetings-ascend, canonical-meetings-few}
-use Rattle.walks.specs.Columns.{at}
-use Rattle.walks.specs.Walked.{numbers, laid, marks-by}
+use Rattle.columns.proofs.Laws.{look-in, look-out}
+use Rattle.control.specs.words.Words.{reference-room, track-words}
+use Rattle.rules.specs.Track.{Label, Pair, lookup}
+use Rattle.rules.specs.Run.{arc-room, meeting-room}
+use Rattle.rules.proofs.Marked.{tally}
+use Rattle.rules.proofs.Weighed.{between}
+use Rattle.plans.specs.words.Layout.{layout, place-of, found}
+use Rattle.control.specs.words.Views.{place-told}
+use Rattle.graphs.specs.Graph.{Graph, joins, meets}
+use Rattle.graphs.specs.Walk.{among, order}
+use Rattle.graphs.specs.Saved.{placed, numbered, canonical}
+use Rattle.graphs.specs.Shape.{every, branches, ascends}
+use Rattle.graphs.proofs.Walking.{Within, among-first, within-rest, distinct-below}
+use Rattle.graphs.proofs.Ordered.{order-distinct, order-labelled}
+use Rattle.graphs.proofs.Pairs.{ascending-same}
+use Rattle.graphs.proofs.Rows.{tested}
+use Rattle.graphs.proofs.Counted.{joins-between}
+use Rattle.graphs.proofs.Canonical.{canonical-arcs, canonical-arcs-ascend, canonical-arcs-few}
+use Rattle.graphs.proofs.Canonical.{canonical-meetings, canonical-meetings-ascend, canonical-meetings-few}
+use Rattle.links.specs.words.Columns.{at}
+use Rattle.walks.specs.code.Walked.{numbers, laid, marks-by}
 use Rattle.walks.proofs.Telling.{Telling, mark-told, labelled-told}
 use Rattle.walks.proofs.LinkedWords.{marked, marked-inside}
 use Rattle.walks.proofs.LinkTold.{all-fit-told, walked-told}
-use Rattle.numbering.specs.Numbered.{renumbered, sorted, arcs-in, meetings-in, order-by, arcs-by, meetings-by}
-use Rattle.numbering.specs.Numbered.{labels-out, track-out}
-use Rattle.numbering.proofs.Listed.{pairs-length, arcs-back, meetings-back}
-use Rattle.numbering.proofs.Renumbering.{renumbered-below}
-use Rattle.numbering.proofs.Ordering.{sorted-joins, sorted-ascends}
-use Rattle.writing.specs.Told.{literal, place-by, labels-told, graph-told}
-use Rattle.saving.proofs.NumberLaws.{Numbers, numbers-told, numbers-most, way}
-use Rattle.saving.proofs.NumberLaws.{renumbered-joins, renumbered-times}
+use Rattle.pairing.specs.code.Renumbered.{renumbered}
+use Rattle.sorting.specs.code.Sorted.{sorted}
+use Rattle.numbering.specs.code.Numbered.{arcs-in, meetings-in, order-by, arcs-by, meetings-by, labels-out}
+use Rattle.numbering.specs.code.Numbered.{track-out}
+use Rattle.links.proofs.Listed.{pairs-length, arcs-back, meetings-back}
+use Rattle.pairing.proofs.Renumbering.{renumbered-below}
+use Rattle.sorting.proofs.Ordering.{sorted-joins, sorted-ascends}
+use Rattle.framing.specs.words.Told.{literal, place-by, labels-told, graph-told}
+use Rattle.saving.proofs.NumberLaws.{Numbers, numbers-told, numbers-most, way, renumbered-joins}
+use Rattle.saving.proofs.NumberLaws.{renumbered-times}
 
 -- who meet are joined the one way or the other
 tested-meets : (as′ : List Pair) (x y : Option ℕ)

@@ -4,10 +4,10 @@ use Prim.Native.Nat.{ℕ}
 use mathlib.Core.Path.{_≡_, ap, _∙_}
 use mathlib.Core.List.{List}
 use lib.ListN.{length}
-use Rattle.writing.specs.Told.{answer, left}
+use Rattle.writing.specs.words.Slice.{answer, left}
 use Rattle.writing.specs.declared.Saved.{Saved}
-use Rattle.saving.specs.Code.{text-of}
-use Rattle.saving.specs.Kept.{Saves}
+use Rattle.saving.specs.code.Saving.{text-of}
+use Rattle.saving.specs.words.Kept.{Saves}
 use Rattle.saving.proofs.SavedTold.{saves-told}
 
 -- an answer and a slice that are those of the words' text

@@ -13,34 +13,34 @@ use lib.Dec.{leb, ltb}
 use borrow.Author.Tests.{ltb-true, ltb-false, le-ltb}
 use Rattle.lines.proofs.Digits.{both}
 use Rattle.tables.specs.Table.{Sofar, accepted, judged}
-use Rattle.tables.specs.Columns.{kinds, owners, afters, roots}
+use Rattle.tables.specs.words.Columns.{kinds, owners, afters, roots}
 use Rattle.frames.specs.TableFrame.{path-room, definition-room}
 use Rattle.terms.specs.Term.{Term, definitions-of}
 use Rattle.terms.proofs.Trees.{each-at, checked-trees}
 use Rattle.places.specs.Place.{Place}
-use Rattle.control.specs.Words.{reference-room, node}
-use Rattle.control.specs.Control.{label}
-use Rattle.report.specs.Track.{lookup}
-use Rattle.report.specs.Run.{State, arc-room, meeting-room}
-use Rattle.report.proofs.Marked.{labelled-once}
-use Rattle.report.proofs.Meetings.{meetings-once}
-use Rattle.report.proofs.Parents.{arcs-once}
-use Rattle.report.proofs.Weighed.{between}
-use Rattle.plans.specs.Laid.{layout}
-use Rattle.stepping.specs.Views.{pairs, marked}
-use Rattle.runs.specs.Counting.{fresh, arcs, meetings}
-use Rattle.runs.specs.Held.{Holds}
-use Rattle.tracks.specs.Graph.{graph-of}
-use Rattle.tracks.specs.Saved.{graph-text, saved}
-use Rattle.tracks.specs.Parsed.{in-range}
-use Rattle.tracks.specs.Shape.{every, branches}
-use Rattle.tracks.proofs.Counted.{labelled-lookup, times-between}
-use Rattle.tracks.proofs.Tracked.{run-branches, run-ranged, run-rooms}
-use Rattle.walks.specs.Columns.{at}
+use Rattle.control.specs.words.Words.{reference-room, node}
+use Rattle.control.specs.words.Control.{label}
+use Rattle.rules.specs.Track.{lookup}
+use Rattle.rules.specs.Run.{State, arc-room, meeting-room}
+use Rattle.rules.proofs.Marked.{labelled-once}
+use Rattle.rules.proofs.Meetings.{meetings-once}
+use Rattle.rules.proofs.Parents.{arcs-once}
+use Rattle.rules.proofs.Weighed.{between}
+use Rattle.plans.specs.words.Layout.{layout}
+use Rattle.control.specs.words.Views.{pairs, marked}
+use Rattle.counting.specs.code.Counting.{fresh, arcs, meetings}
+use Rattle.runs.specs.words.Held.{Holds}
+use Rattle.graphs.specs.Graph.{graph-of}
+use Rattle.graphs.specs.Saved.{graph-text, saved}
+use Rattle.graphs.specs.Parsed.{in-range}
+use Rattle.graphs.specs.Shape.{every, branches}
+use Rattle.graphs.proofs.Counted.{labelled-lookup, times-between}
+use Rattle.graphs.proofs.Tracked.{run-branches, run-ranged, run-rooms}
+use Rattle.links.specs.words.Columns.{at}
 use Rattle.walks.proofs.Telling.{Telling, mark-told}
 use Rattle.walks.proofs.LinkTold.{every-member}
-use Rattle.saving.specs.Code.{marks-from, marks, text-of}
-use Rattle.saving.specs.Kept.{Table-of}
+use Rattle.saving.specs.code.Saving.{marks-from, marks, text-of}
+use Rattle.saving.specs.words.Kept.{Table-of}
 use Rattle.saving.proofs.MarkLaws.{marks-length}
 use Rattle.saving.proofs.NumberedTold.{laid-told, graph-told-canonical}
 

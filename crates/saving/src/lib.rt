@@ -1,17 +1,17 @@
 // Tracks saved: a run's track becomes lines of hexadecimal in a lent slice, numbered by the walk.
+use columns::wide;
 use control::LABEL;
+use links::at_most;
 use numbering::number;
-use walks::at_most;
-use walks::wide;
 use writing::Saved;
 use writing::write;
 ghost use mathlib.Core.Path.{_≡_};
 ghost use Prim.Native.Nat.{_≤_};
 ghost use lib.ListN.{length, replicate};
-ghost use Rattle.walks.specs.Walked.{laid};
-ghost use Rattle.writing.specs.Told.{answer, left};
-ghost use Rattle.saving.specs.Code as of;
-ghost use Rattle.saving.specs.Kept.{Saves};
+ghost use Rattle.walks.specs.code.Walked.{laid};
+ghost use Rattle.writing.specs.words.Slice.{answer, left};
+ghost use Rattle.saving.specs.code.Saving as of;
+ghost use Rattle.saving.specs.words.Kept.{Saves};
 
 const REFERENCES: usize = 8193;
 

@@ -12,10 +12,11 @@ use lib.Dec.{eqb}
 use lib.Seq.{drop-cons, getD-drop, sets}
 use borrow.Author.Tests.{le-leb, lt-leb, eq-eqb, ne-eqb}
 use Rattle.lines.specs.Line.{bytes, number}
-use Rattle.lines.specs.Code.{byteAt, numberOf}
-use Rattle.lines.proofs.Laws.{byte-is, bytes-length, bytes-drop, bytes-take, number-is}
+use Rattle.numbers.specs.code.Numbers.{byteAt, numberOf}
+use Rattle.numbers.proofs.Laws.{byte-is, bytes-drop, bytes-take, number-is}
+use Rattle.lines.proofs.Laws.{bytes-length}
 use Rattle.scripts.specs.Script.{most, digits, well-formed, all-digits, in-range, asked}
-use Rattle.scripts.specs.Code.{refusal}
+use Rattle.scripts.specs.code.Answers.{refusal}
 
 module _ (cs bs : List ℕ) (held : bytes cs ≡ some bs) where
   count : length cs / 2 ≡ length bs

@@ -14,9 +14,9 @@ use borrow.Author.Tests.{le-leb, leb-true, eq-eqb}
 use Rattle.lines.specs.Line.{lines, number-from}
 use Rattle.lines.proofs.Digits.{both}
 use Rattle.scripts.specs.declared.Step.{Step}
-use Rattle.scripts.specs.Script.{most, digits, well-formed, all-digits, in-range}
-use Rattle.scripts.specs.Script.{asked, address, answer, left}
-use Rattle.scripts.specs.Code.{refusal}
+use Rattle.scripts.specs.Script.{most, digits, well-formed, all-digits, in-range, asked, address}
+use Rattle.scripts.specs.Script.{answer, left}
+use Rattle.scripts.specs.code.Answers.{refusal}
 use Rattle.scripts.proofs.Steps.{is-step}
 
 -- each is 01 to 04

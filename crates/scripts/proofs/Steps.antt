@@ -11,16 +11,16 @@ use lib.ListN.{length, take, drop, getD, length-take, length-drop}
 use lib.Dec.{leb, eqb}
 use borrow.Author.Tests.{leb-true}
 use Rattle.lines.specs.Line.{choose, number, lines, bytes, characters, answer as line-at}
-use Rattle.lines.specs.Code.{part}
+use Rattle.lines.specs.code.Characters.{part}
 use Rattle.lines.specs.declared.Line.{Line}
 use Rattle.lines.specs.declared.Line.the-variants.{Found, NoLine, End as NoneLeft}
 use Rattle.lines.proofs.Digits.{both}
 use Rattle.lines.proofs.Laws.{IsLine, is-line, not-a-line, none-left, part-some, bytes-length}
 use Rattle.scripts.specs.declared.Step.{Step}
 use Rattle.scripts.specs.declared.Step.the-variants.{Address, Refused}
-use Rattle.scripts.specs.Script.{most, digits, well-formed, all-digits, in-range}
-use Rattle.scripts.specs.Script.{asked, Asked, address, refused, digits-of, told, answer, left}
-use Rattle.scripts.specs.Code.{without-line, refusal}
+use Rattle.scripts.specs.Script.{most, digits, well-formed, all-digits, in-range, asked, Asked, address}
+use Rattle.scripts.specs.Script.{refused, digits-of, told, answer, left}
+use Rattle.scripts.specs.code.Answers.{without-line, refusal}
 
 -- what a frame that asks for a step is
 pub record IsStep (bs : List ℕ) : Type 0 where

@@ -1,10 +1,10 @@
 // A script's lines: each asks for a step by an address, whose digits go into a lent array.
 // It relies on the line finder for where a line ends and what its bytes are.
 use lines::Line;
-use lines::byte;
 use lines::characters;
 use lines::next_line;
-use lines::number;
+use numbers::byte;
+use numbers::number;
 ghost use mathlib.Core.Path.{_≡_};
 ghost use mathlib.Core.List.{List};
 ghost use mathlib.Core.Option.{some};
@@ -13,7 +13,7 @@ ghost use lib.ListN.{length, drop};
 ghost use lib.Seq.{sets};
 ghost use Rattle.lines.specs.Line.{lines, bytes};
 ghost use Rattle.scripts.specs.Script.{most, digits as behind, all-digits, asked, answer, left};
-ghost use Rattle.scripts.specs.Code.{without-line, refusal};
+ghost use Rattle.scripts.specs.code.Answers.{without-line, refusal};
 
 // The tag of a script's frame, `20`.
 const STEP: u8 = 32;

@@ -12,8 +12,8 @@ use lib.Bits.{bitAnd, bitOr, bitXor, and-shr, or-shr, xor-shr, and-mod, or-mod, 
 use lib.Dec.{eqb, eqb·zero-suc, eqb·suc-zero, eqb·suc-suc}
 use borrow.Author.Tests.{eqb-true, eqb-false, ne-eqb}
 use Rattle.lines.specs.Line.{choose}
-use Rattle.frames.specs.EventSet.{member}
-use Rattle.frames.proofs.Members.{set-within}
+use Rattle.sets.specs.EventSet.{member}
+use Rattle.sets.proofs.Members.{set-within}
 
 -- the lowest bit is the remainder by 2
 pub member-lowest : (x : ℕ) → x % 2 ≡ choose (member 0 x) 1 0

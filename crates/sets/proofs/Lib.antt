@@ -2,3 +2,4 @@
 -- alone.
 pub mod Bits
 pub mod Told
+pub mod Members

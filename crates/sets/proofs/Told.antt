@@ -11,11 +11,11 @@ use lib.Bits.{bitAnd, bitOr, bitXor}
 use lib.Dec.{eqb}
 use borrow.Author.Tests.{eqb-true, eqb-false, ne-eqb}
 use Rattle.lines.specs.Line.{choose}
-use Rattle.frames.specs.EventSet.{member}
-use Rattle.frames.proofs.Members.{set-within}
+use Rattle.sets.specs.EventSet.{member}
+use Rattle.sets.proofs.Members.{set-within}
 use Rattle.sets.specs.Told.{SetOf, shown, Emptiness}
-use Rattle.sets.proofs.Bits.{member-lowest, member-half, none-in-zero}
-use Rattle.sets.proofs.Bits.{member-and, member-or, member-xor}
+use Rattle.sets.proofs.Bits.{member-lowest, member-half, none-in-zero, member-and, member-or}
+use Rattle.sets.proofs.Bits.{member-xor}
 
 -- a number that is not 0 has a bit: the lowest, or one of its half
 higher-member : (n : ℕ) → (eqb (n / 2) 0 ≡ false → (k : ℕ) × (member k (n / 2) ≡ true)) → eqb n 0 ≡ false

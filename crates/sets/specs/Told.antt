@@ -3,7 +3,7 @@ use Prim.Native.Nat.{ℕ}
 use mathlib.Core.Path.{_≡_}
 use mathlib.Core.Bool.{Bool, true, false, _&&_, _||_}
 use Rattle.lines.specs.Line.{choose}
-use Rattle.frames.specs.EventSet.{member}
+use Rattle.sets.specs.EventSet.{member}
 
 -- x is the set of the events that pass a test
 abbrev pub SetOf : (ℕ → Bool) → ℕ → Type 0

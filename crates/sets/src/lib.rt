@@ -3,7 +3,7 @@
 ghost use mathlib.Core.Path.{_≡_};
 ghost use mathlib.Core.Bool.{_&&_, _||_};
 ghost use lib.Dec.{eqb, ltb};
-ghost use Rattle.frames.specs.EventSet.{member};
+ghost use Rattle.sets.specs.EventSet.{member};
 ghost use Rattle.frames.specs.TableFrame.{event-room};
 ghost use Rattle.sets.specs.Told.{SetOf, shown, Emptiness};
 

@@ -11,13 +11,13 @@ use native.Mathlib.Numerals.{add-one}
 use lib.Dec.{leb, eqb}
 use borrow.Author.Tests.{leb-true, eq-eqb, ne-eqb, lt-ltb, le-ltb, le-leb, lt-leb, not-true, not-false}
 use Rattle.lines.proofs.Digits.{both}
-use Rattle.control.specs.Words.{track-word}
-use Rattle.report.specs.Track.{Pair, pair}
-use Rattle.stepping.specs.Views.{pairs}
-use Rattle.tracks.specs.Shape.{every, before, before-first, ascends, upward, from-on}
-use Rattle.tracks.proofs.Pairs.{sooner, beside, true-before}
-use Rattle.walks.specs.Columns.{at}
-use Rattle.shapes.specs.Rules.{is-event, one-event}
+use Rattle.control.specs.words.Words.{track-word}
+use Rattle.rules.specs.Track.{Pair, pair}
+use Rattle.control.specs.words.Views.{pairs}
+use Rattle.graphs.specs.Shape.{every, before, before-first, ascends, upward, from-on}
+use Rattle.graphs.proofs.Pairs.{sooner, beside, true-before}
+use Rattle.links.specs.words.Columns.{at}
+use Rattle.shapes.specs.code.Rules.{is-event, one-event}
 
 -- rules one behind the other: one that is not met settles it, and one that is met leaves it to the rest
 pub rule-broken : {rule : Bool} (rest : Bool) → rule ≡ false → false ≡ (rule && rest)

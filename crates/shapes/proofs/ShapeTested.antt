@@ -9,17 +9,18 @@ use native.Mathlib.Nat.{add-zero, zero-add, add-suc, suc-add, min-eq-left}
 use lib.ListN.{length, getD, replicate, length-replicate, List·getD-append}
 use lib.Seq.{sets-eq}
 use lib.Dec.{eqb}
-use Rattle.places.proofs.Ways.{look-in}
-use Rattle.control.specs.Words.{reference-room}
-use Rattle.report.specs.Track.{Pair}
-use Rattle.stepping.specs.Views.{pairs}
-use Rattle.tracks.specs.Graph.{Graph}
-use Rattle.tracks.specs.Shape.{every, ascends, upward, from-on}
-use Rattle.walks.specs.Columns.{at}
-use Rattle.walks.specs.Linked.{side-words, linked, all-fit}
-use Rattle.walks.specs.Walked.{walked, numbers, laid}
-use Rattle.shapes.specs.Rules.{one-event, joins-events, as-walked, shaped}
-use Rattle.shapes.proofs.RuleTests.{rule-broken, rule-met, told-broken, told-met, told-equal, told-other}
+use Rattle.columns.proofs.Laws.{look-in}
+use Rattle.control.specs.words.Words.{reference-room}
+use Rattle.rules.specs.Track.{Pair}
+use Rattle.control.specs.words.Views.{pairs}
+use Rattle.graphs.specs.Graph.{Graph}
+use Rattle.graphs.specs.Shape.{every, ascends, upward, from-on}
+use Rattle.links.specs.words.Columns.{at}
+use Rattle.links.specs.code.Linked.{side-words, linked, all-fit}
+use Rattle.walks.specs.code.Walked.{walked, numbers, laid}
+use Rattle.shapes.specs.code.Rules.{one-event, joins-events, as-walked, shaped}
+use Rattle.shapes.proofs.RuleTests.{rule-broken, rule-met, told-broken, told-met, told-equal}
+use Rattle.shapes.proofs.RuleTests.{told-other}
 use Rattle.shapes.proofs.WalkOrder.{Ordered, order-tested, walked-distinct}
 
 -- words laid in front of a column stand there

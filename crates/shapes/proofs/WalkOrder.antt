@@ -12,16 +12,16 @@ use lib.Seq.{getD-set-same, getD-set-other, ext-getD}
 use lib.Dec.{eqb}
 use borrow.Author.Tests.{eqb-true, eq-eqb}
 use Rattle.lines.proofs.Digits.{both}
-use Rattle.places.proofs.Ways.{look-in}
-use Rattle.control.specs.Words.{reference-room}
-use Rattle.tracks.specs.Walk.{among}
-use Rattle.tracks.specs.Shape.{same, every, from-on}
-use Rattle.tracks.proofs.Walking.{Distinct, among-neither, walk-distinct}
-use Rattle.tracks.proofs.Pairs.{agree}
-use Rattle.tracks.proofs.References.{number-in, number-there, same-true, same-itself}
-use Rattle.walks.specs.Columns.{at}
-use Rattle.walks.specs.Linked.{side-words, on}
-use Rattle.walks.specs.Walked.{first, walked, numbers-from, numbers}
+use Rattle.columns.proofs.Laws.{look-in}
+use Rattle.control.specs.words.Words.{reference-room}
+use Rattle.graphs.specs.Walk.{among}
+use Rattle.graphs.specs.Shape.{same, every, from-on}
+use Rattle.graphs.proofs.Walking.{Distinct, among-neither, walk-distinct}
+use Rattle.graphs.proofs.Pairs.{agree}
+use Rattle.graphs.proofs.References.{number-in, number-there, same-true, same-itself}
+use Rattle.links.specs.words.Columns.{at}
+use Rattle.links.specs.code.Linked.{side-words, on}
+use Rattle.walks.specs.code.Walked.{first, walked, numbers-from, numbers}
 use Rattle.walks.proofs.Numbering.{has-number}
 
 -- a word stays where its reference gets no number

@@ -1,2 +1,2 @@
 -- The shape of a saved track: `Rules` is the reader's rules by marks.
-pub mod Rules
+pub mod code

@@ -1,8 +1,8 @@
 // The reader's rules, tested on a graph in columns: each in a function of its own. It relies on the words of a track, and on
 // the numbering walk.
 use control::track_word;
-use walks::link;
-use walks::reference_word;
+use links::link;
+use links::reference_word;
 use walks::walk;
 ghost use mathlib.Core.Path.{_≡_};
 ghost use mathlib.Core.Bool.{_&&_, not};
@@ -10,13 +10,13 @@ ghost use mathlib.Core.List.{List};
 ghost use Prim.Native.Nat.{ℕ, _+_, _≤_};
 ghost use lib.ListN.{length};
 ghost use lib.Dec.{eqb};
-ghost use Rattle.report.specs.Track.{Pair};
-ghost use Rattle.stepping.specs.Views.{pairs};
-ghost use Rattle.tracks.specs.Graph.{Graph};
-ghost use Rattle.tracks.specs.Shape.{every, ascends, upward, from-on};
-ghost use Rattle.walks.specs.Columns.{at};
-ghost use Rattle.walks.specs.Walked.{laid};
-ghost use Rattle.shapes.specs.Rules as of;
+ghost use Rattle.rules.specs.Track.{Pair};
+ghost use Rattle.control.specs.words.Views.{pairs};
+ghost use Rattle.graphs.specs.Graph.{Graph};
+ghost use Rattle.graphs.specs.Shape.{every, ascends, upward, from-on};
+ghost use Rattle.links.specs.words.Columns.{at};
+ghost use Rattle.walks.specs.code.Walked.{laid};
+ghost use Rattle.shapes.specs.code.Rules as of;
 
 // Where the meetings begin in a track.
 const MEETINGS_FROM: usize = 16384;

@@ -1,6 +1,3 @@
 -- Laws of a step's words: `MarkLaws` of what it writes, `LeafLaws` of the steps that look no further down, `SideLaws` of
 -- the sides of a choice or parallel, `TakeLaws` of the whole step.
-pub mod MarkLaws
-pub mod LeafLaws
-pub mod SideLaws
-pub mod TakeLaws
+pub mod Laws

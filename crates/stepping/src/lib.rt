@@ -1,8 +1,5 @@
-// Steps of a run: an address is weighed, and where its derivation is there and fits the rooms, the step is taken.
-mod leaves;
-mod marks;
-mod sides;
-
+// The step of an address taken: from the outside inward, by the digits that name it. Only a step that was weighed, and fits,
+// is taken. It relies on the steps of leaves and on the sides of a choice or parallel.
 use control::Event;
 use control::FRAME;
 use control::SIDES;
@@ -11,11 +8,17 @@ use control::STATE;
 use control::TERM;
 use control::UNTOUCHED;
 use control::put;
+use control::sum;
 use control::word;
-pub use leaves::call_start;
+use drawing::Tally;
+use leaves::Taken;
 use leaves::come;
 use leaves::take_end;
 use leaves::take_leaf;
+use looking::digit_at;
+use looking::inside_of;
+use looking::is_split;
+use looking::taken;
 use plans::kind_of;
 use plans::second_of;
 use sides::close_both;
@@ -23,35 +26,10 @@ use sides::close_one;
 use sides::enter;
 use sides::enter_side;
 use sides::put_side;
-use weighing::digit_at;
-use weighing::inside_of;
-use weighing::is_split;
-use weighing::sum;
-use weighing::taken;
 ghost use mathlib.Core.Path.{_≡_};
-ghost use Rattle.stepping.specs.Take as spec;
+ghost use Rattle.stepping.specs.code.Take as spec;
 
 const SEQUENCE: usize = 5;
-
-// How far a run has come: its next fresh reference, its nodes, arcs and meetings, and the event nodes of the step
-// that is being taken.
-pub struct Tally {
-    pub fresh: usize,
-    pub nodes: usize,
-    pub arcs: usize,
-    pub meetings: usize,
-    pub met: usize,
-}
-
-// What a step of a part of control comes to: its event; the reference of what stands there now; its cells; where its
-// digits end; and how far the run has come.
-pub struct Taken {
-    pub event: Event,
-    pub reference: usize,
-    pub size: usize,
-    pub at: usize,
-    pub tally: Tally,
-}
 
 // Takes the step of what stands at reference n, inside sequences up to frame `bound`, by the digits from `at` on.
 pub fn take(

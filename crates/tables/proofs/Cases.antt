@@ -7,10 +7,10 @@ use mathlib.Core.List.{List, [], _∷_, _++_, map}
 use lib.ListN.{replicate}
 use Rattle.lines.specs.Line.{character, hex, text, digit, before, lines, pair, bytes, frame, characters}
 use Rattle.lines.specs.Line.{number-from}
-use Rattle.frames.specs.Kind.{known, payload-bytes, subterms}
+use Rattle.kinds.specs.Kind.{known, payload-bytes, subterms}
 use Rattle.frames.specs.TableFrame.{frame-of, limit, longest, refusal, first-refusal, closes}
 use Rattle.tables.specs.Table.{next-due, seen, taken, held, verdict, behind, rest, from-first, judged}
-use Rattle.tables.specs.Columns.{answer}
+use Rattle.tables.specs.words.Columns.{answer}
 use Rattle.tables.specs.declared.Checked.{Checked}
 use Rattle.tables.specs.declared.Checked.the-variants.{Accepted, Refused}
 

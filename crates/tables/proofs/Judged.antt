@@ -14,10 +14,10 @@ use Rattle.lines.specs.declared.Line.the-variants.{Found}
 use Rattle.lines.proofs.Laws.{IsLine, is-line}
 use Rattle.frames.specs.TableFrame.{frame-of, refusal, closes}
 use Rattle.tables.specs.Table.{Sofar, seen, taken, held, verdict, Judged, refused, behind, rest}
-use Rattle.frames.specs.Code.{heard, said, stop}
+use Rattle.refusals.specs.code.Said.{heard, said, stop}
 use Rattle.frames.specs.declared.Frame.{Frame}
-use Rattle.frames.specs.declared.Said.{Said}
-use Rattle.frames.specs.declared.Said.the-variants.{Goes, Stops}
+use Rattle.refusals.specs.declared.Said.{Said}
+use Rattle.refusals.specs.declared.Said.the-variants.{Goes, Stops}
 
 -- a line that is one: where the next begins, and the lines from there on
 pub record Onward (t : List ℕ) (at next : ℕ) (ls : List Raw) : Type 0 where

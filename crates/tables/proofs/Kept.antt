@@ -13,16 +13,16 @@ use lib.Seq.{sets, getD-set-same, getD-set-other}
 use lib.Dec.{eqb}
 use borrow.Author.Tests.{ne-eqb}
 use Rattle.lines.specs.Line.{choose}
-use Rattle.frames.specs.Kind.{subterms}
+use Rattle.kinds.specs.Kind.{subterms}
 use Rattle.frames.specs.TableFrame.{refusal, closes}
 use Rattle.tables.specs.Table.{Item, Sofar, next-due, seen, taken}
-use Rattle.tables.specs.Code.{Ready, topmost, moved, owed, pushed, started, seen-then, waiting-then}
-use Rattle.tables.specs.Code.{roots-then, column-then}
+use Rattle.filling.specs.code.Taking.{Ready, topmost, moved, owed, pushed, started, seen-then, waiting-then}
+use Rattle.filling.specs.code.Taking.{roots-then, column-then}
 use Rattle.frames.specs.declared.Frame.{Frame}
 use Rattle.frames.specs.declared.Frame.the-variants.{Opening, Definition, Term, Closing, Wrong}
 use Rattle.frames.specs.declared.Seen.{Seen}
-use Rattle.frames.proofs.KindLaws.{subterms-most}
-use Rattle.frames.proofs.Fine.{FineTerm, fine-term, depth-fits, fine-definition}
+use Rattle.kinds.proofs.KindLaws.{subterms-most}
+use Rattle.refusals.proofs.Fine.{FineTerm, fine-term, depth-fits, fine-definition}
 
 -- one number more at the end of a run of stores
 pub sets-snoc : (l : List ℕ) (i : ℕ) (vs : List ℕ) (v n : ℕ) → n ≡ i + length vs

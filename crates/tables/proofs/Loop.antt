@@ -13,13 +13,14 @@ use Rattle.lines.proofs.Laws.{is-line, not-a-line, none-left}
 use Rattle.frames.specs.TableFrame.{refusal, closes}
 use Rattle.tables.specs.Table.{Sofar, next-due, seen, taken, verdict, Judged, accepted, refused, behind}
 use Rattle.tables.specs.Table.{rest}
-use Rattle.tables.specs.Columns.{answer}
-use Rattle.frames.specs.Code.{said}
-use Rattle.tables.specs.Code.{Ready, begins, Filled, seen-then, waiting-then, roots-then, column-then}
+use Rattle.tables.specs.words.Columns.{answer}
+use Rattle.refusals.specs.code.Said.{said}
+use Rattle.filling.specs.code.Taking.{Ready, seen-then, waiting-then, roots-then, column-then}
+use Rattle.tables.specs.words.Filled.{begins, Filled}
 use Rattle.frames.specs.declared.Frame.{Frame}
 use Rattle.frames.specs.declared.Seen.{Seen}
-use Rattle.frames.specs.declared.Said.{Said}
-use Rattle.frames.specs.declared.Said.the-variants.{Goes, Stops}
+use Rattle.refusals.specs.declared.Said.{Said}
+use Rattle.refusals.specs.declared.Said.the-variants.{Goes, Stops}
 use Rattle.tables.specs.declared.Counts.{Counts}
 use Rattle.tables.specs.declared.Checked.{Checked}
 use Rattle.tables.specs.declared.Checked.the-variants.{Accepted, Refused}

@@ -4,7 +4,7 @@ use Prim.Native.Nat.{ℕ}
 use mathlib.Core.Path.{_≡_, sym, _∙_}
 use mathlib.Core.List.{List}
 use Rattle.tables.specs.Table.{judged}
-use Rattle.tables.specs.Columns.{kinds, payloads, owners, afters, roots, left, answer}
+use Rattle.tables.specs.words.Columns.{kinds, payloads, owners, afters, roots, left, answer}
 use Rattle.tables.specs.declared.Checked.{Checked}
 
 -- the text and the columns at entry

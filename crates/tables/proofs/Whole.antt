@@ -15,13 +15,14 @@ use Rattle.lines.specs.Line.{choose, Raw, frame, lines, characters}
 use Rattle.frames.specs.TableFrame.{frame-of, first-refusal}
 use Rattle.tables.specs.Table.{Item, Sofar, taken, unopened, held, verdict, Judged, accepted, refused}
 use Rattle.tables.specs.Table.{rest, from-first, judged, text-room}
-use Rattle.tables.specs.Columns.{column, kinds, payloads, owners, roots, afters, walked, left, answer}
-use Rattle.frames.specs.Code.{opens, opened-by, opened, failure}
-use Rattle.tables.specs.Code.{begins, Filled}
+use Rattle.tables.specs.words.Columns.{column, kinds, payloads, owners, roots, afters, left, answer}
+use Rattle.filling.specs.words.Preorder.{walked}
+use Rattle.refusals.specs.code.Said.{opens, opened-by, opened, failure}
+use Rattle.tables.specs.words.Filled.{begins, Filled}
 use Rattle.frames.specs.declared.Frame.{Frame}
 use Rattle.frames.specs.declared.Frame.the-variants.{Opening, Definition, Term, Closing, Wrong}
-use Rattle.frames.specs.declared.Opened.{Opened}
-use Rattle.frames.specs.declared.Opened.the-variants.{Table, Fails}
+use Rattle.refusals.specs.declared.Opened.{Opened}
+use Rattle.refusals.specs.declared.Opened.the-variants.{Table, Fails}
 use Rattle.tables.specs.declared.Counts.{Counts}
 use Rattle.tables.specs.declared.Checked.{Checked}
 use Rattle.tables.specs.declared.Checked.the-variants.{Accepted, Refused}

@@ -6,7 +6,7 @@ use mathlib.Core.Option.{Option, none, some}
 use lib.ListN.{length, drop, replicate}
 use lib.Dec.{leb, eqb}
 use Rattle.lines.specs.Line.{choose, Raw, frame, lines}
-use Rattle.frames.specs.Kind.{subterms}
+use Rattle.kinds.specs.Kind.{subterms}
 use Rattle.frames.specs.TableFrame.{frame-of, refusal, first-refusal, closes}
 use Rattle.frames.specs.declared.Frame.{Frame}
 use Rattle.frames.specs.declared.Frame.the-variants.{Opening, Definition, Term, Closing, Wrong}

@@ -1,30 +1,28 @@
 // Tables of terms: a table's text is judged, and a good one becomes columns: for each term its kind, its
 // payload, the definition that it stands in and the term behind it, and for each definition its root. It
 // relies on the line finder for where a line ends and what its bytes are.
-mod taking;
-mod walking;
-
-use frames::Opened;
-use frames::Said;
+use filling::behind;
+use filling::take;
+use filling::walk;
 use frames::Seen;
 use frames::closes;
-use frames::failure_of;
-use frames::first_line;
-use frames::stop_of;
-use frames::table_line;
 use lines::Line;
 use lines::next_line;
-use taking::take;
-use walking::walk;
+use refusals::Opened;
+use refusals::Said;
+use refusals::failure_of;
+use refusals::first_line;
+use refusals::stop_of;
+use refusals::table_line;
 ghost use mathlib.Core.Path.{_≡_};
 ghost use Prim.Native.Nat.{_≤_};
 ghost use lib.ListN.{drop};
 ghost use Rattle.lines.specs.Line.{lines};
 ghost use Rattle.tables.specs.Table as table;
 ghost use Rattle.tables.specs.Table.{Sofar, accepted, judged, seen};
-ghost use Rattle.tables.specs.Columns as columns;
-ghost use Rattle.tables.specs.Columns.{answer, left};
-ghost use Rattle.tables.specs.Code.{begins, Filled};
+ghost use Rattle.tables.specs.words.Columns as columns;
+ghost use Rattle.tables.specs.words.Columns.{answer, left};
+ghost use Rattle.tables.specs.words.Filled.{begins, Filled};
 
 const TEXT_ROOM: usize = 32768;
 

@@ -15,16 +15,16 @@ use lib.Dec.{leb, eqb}
 use borrow.Author.Tests.{leb-true, eqb-true}
 use Rattle.lines.specs.Line.{choose, number, Raw, frame, lines}
 use Rattle.lines.proofs.Digits.{both}
-use Rattle.frames.specs.Kind as Kind
-use Rattle.frames.specs.Kind.{known, payload-bytes, subterms}
+use Rattle.kinds.specs.Kind as Kind
+use Rattle.kinds.specs.Kind.{known, payload-bytes, subterms}
 use Rattle.frames.specs.TableFrame.{limit, longest, refusal, first-refusal, closes, frame-of}
 use Rattle.frames.specs.declared.Frame.{Frame}
 use Rattle.frames.specs.declared.Frame.the-variants.{Opening, Definition, Term as TermLine, Closing, Wrong}
 use Rattle.frames.specs.declared.Seen.{Seen}
-use Rattle.frames.proofs.Fine.{FineTerm, fine-term, depth-fits, fine-definition, fine-closing}
-use Rattle.tables.specs.Table.{Item, Sofar, next-due, seen, taken, unopened, held, verdict}
-use Rattle.tables.specs.Table.{Judged, accepted, refused, behind, rest, from-first, judged, text-room}
-use Rattle.tables.specs.Code.{begins}
+use Rattle.refusals.proofs.Fine.{FineTerm, fine-term, depth-fits, fine-definition, fine-closing}
+use Rattle.tables.specs.Table.{Item, Sofar, next-due, seen, taken, unopened, held, verdict, Judged, accepted}
+use Rattle.tables.specs.Table.{refused, behind, rest, from-first, judged, text-room}
+use Rattle.tables.specs.words.Filled.{begins}
 use Rattle.tables.proofs.Loop.{behind-accepts}
 use Rattle.terms.specs.Term.{Leaf, call, SKIP, STOP, Operator, internal, external, sequence, parallel}
 use Rattle.terms.specs.Term.{Term, leaf, prefix, binary, leaf-kind, leaf-payload, leaf-of}

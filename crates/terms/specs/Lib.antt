@@ -1,2 +1,3 @@
 -- The terms of a table as trees: `Term`.
 pub mod Term
+pub mod words

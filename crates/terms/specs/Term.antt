@@ -1,12 +1,10 @@
 -- The terms of a table as trees. Document 01, 'Lines': a definition's terms stand in preorder; Fig. 2 of the
 -- report has their forms.
 use Prim.Native.Nat.{ℕ, zero, suc, _+_, _≤_, _<_, _^_}
-use mathlib.Core.Path.{_≡_}
 use mathlib.Core.List.{List, [], _∷_, _++_}
-use lib.ListN.{getD}
 use lib.Dec.{eqb}
 use Rattle.lines.specs.Line.{choose}
-use Rattle.frames.specs.Kind as Kind
+use Rattle.kinds.specs.Kind as Kind
 use Rattle.frames.specs.TableFrame.{path-room}
 use Rattle.tables.specs.Table.{Item, Sofar}
 
@@ -124,16 +122,3 @@ abbrev pub Within : ℕ → ℕ → Term → Type 0
 Within d e (leaf l) = LeafWithin d l
 Within d e (prefix n t) = (n < e) × Within d e t
 Within d e (binary o t u) = OperatorWithin e o × (Within d e t × Within d e u)
-
--- columns that hold a term at number i: its kind and payload, its subterms, and the
--- number of the term behind it
-abbrev pub Holds : List ℕ → List ℕ → List ℕ → ℕ → Term → Type 0
-Holds ks ps xs i (leaf l) =
-    (getD ks i 0 ≡ leaf-kind l) × (getD ps i 0 ≡ leaf-payload l) × (getD xs i 0 ≡ suc i)
-Holds ks ps xs i (prefix e t) =
-    (getD ks i 0 ≡ Kind.prefix) × (getD ps i 0 ≡ e) × (getD xs i 0 ≡ getD xs (suc i) 0)
-    × Holds ks ps xs (suc i) t
-Holds ks ps xs i (binary o t u) =
-    (getD ks i 0 ≡ operator-kind o) × (getD ps i 0 ≡ operator-payload o)
-    × (getD xs i 0 ≡ getD xs (getD xs (suc i) 0) 0)
-    × Holds ks ps xs (suc i) t × Holds ks ps xs (getD xs (suc i) 0) u

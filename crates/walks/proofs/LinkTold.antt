@@ -14,26 +14,26 @@ use borrow.Author.Tests.{leb-true, le-leb, lt-leb, lt-ltb}
 use Rattle.lines.specs.Line.{choose}
 use Rattle.lines.proofs.Digits.{both}
 use Rattle.tables.specs.Table.{Sofar, accepted, judged}
-use Rattle.tables.specs.Columns.{kinds, afters}
+use Rattle.tables.specs.words.Columns.{kinds, afters}
 use Rattle.terms.specs.Term.{definitions-of}
 use Rattle.places.specs.Place.{Place}
-use Rattle.places.specs.Code.{look}
-use Rattle.control.specs.Words.{reference-room}
-use Rattle.report.specs.Track.{Label, Pair, lookup}
-use Rattle.report.proofs.Marked.{tally}
-use Rattle.tracks.specs.Graph.{Graph, present, labelled, keep, heads, targets, on-side, side, next, joins}
-use Rattle.tracks.specs.Walk.{among, walk, order}
-use Rattle.tracks.specs.Shape.{every, branches}
-use Rattle.tracks.specs.Shape as Shape
-use Rattle.tracks.proofs.Walking.{Within, among-first, within-rest, within-none, walk-alike}
-use Rattle.tracks.proofs.Ordered.{among-keep, targets-joined, next-targets, order-enough}
-use Rattle.tracks.proofs.Pairs.{agree}
-use Rattle.tracks.proofs.Counted.{lookup-labelled, labelled-lookup}
-use Rattle.walks.specs.Columns.{at}
-use Rattle.walks.specs.Linked.{side-words, slot, linked, all-fit, target, on}
-use Rattle.walks.specs.Walked.{first, walked}
+use Rattle.columns.specs.words.Columns.{look}
+use Rattle.control.specs.words.Words.{reference-room}
+use Rattle.rules.specs.Track.{Label, Pair, lookup}
+use Rattle.rules.proofs.Marked.{tally}
+use Rattle.graphs.specs.Graph.{Graph, present, labelled, keep, heads, targets, on-side, side, next, joins}
+use Rattle.graphs.specs.Walk.{among, walk, order}
+use Rattle.graphs.specs.Shape.{every, branches}
+use Rattle.graphs.specs.Shape as Shape
+use Rattle.graphs.proofs.Walking.{Within, among-first, within-rest, within-none, walk-alike}
+use Rattle.graphs.proofs.Ordered.{among-keep, targets-joined, next-targets, order-enough}
+use Rattle.graphs.proofs.Pairs.{agree}
+use Rattle.graphs.proofs.Counted.{lookup-labelled, labelled-lookup}
+use Rattle.links.specs.words.Columns.{at}
+use Rattle.links.specs.code.Linked.{side-words, slot, linked, all-fit, target, on}
+use Rattle.walks.specs.code.Walked.{first, walked}
 use Rattle.walks.proofs.Telling.{Telling, Leads, labelled-told, slot-told}
-use Rattle.walks.proofs.LinkLaws.{slot-most}
+use Rattle.links.proofs.LinkLaws.{slot-most}
 use Rattle.walks.proofs.LinkedWords.{room, room-most, word-of, marked, reaches, led, Fits, Links}
 use Rattle.walks.proofs.LinkedWords.{marked-inside, led-marked, all-fit-links, fits-all-fit}
 

@@ -12,16 +12,16 @@ use lib.Dec.{ltb, eqb}
 use borrow.Author.Tests.{eqb-true, eqb-false, eq-eqb, ne-eqb, ltb-true, ltb-false, not-true}
 use Rattle.lines.specs.Line.{choose}
 use Rattle.lines.proofs.Digits.{both}
-use Rattle.places.specs.Code.{look}
-use Rattle.places.proofs.Ways.{look-in, look-out}
-use Rattle.control.specs.Words.{reference-room}
-use Rattle.report.specs.Track.{Pair}
-use Rattle.tracks.specs.Walk.{among}
-use Rattle.tracks.proofs.Walking.{Within}
-use Rattle.walks.specs.Columns.{put, at}
-use Rattle.walks.specs.Linked.{side-words, slot, bare, arc-slot, free, with-arc, linked, all-fit}
-use Rattle.walks.proofs.WordLaws.{put-in}
-use Rattle.walks.proofs.LinkLaws.{slot-most}
+use Rattle.columns.specs.words.Columns.{look}
+use Rattle.columns.proofs.Laws.{look-in, look-out}
+use Rattle.control.specs.words.Words.{reference-room}
+use Rattle.rules.specs.Track.{Pair}
+use Rattle.graphs.specs.Walk.{among}
+use Rattle.graphs.proofs.Walking.{Within}
+use Rattle.links.specs.words.Columns.{put, at}
+use Rattle.links.specs.code.Linked.{side-words, slot, bare, arc-slot, free, with-arc, linked, all-fit}
+use Rattle.links.proofs.WordLaws.{put-in}
+use Rattle.links.proofs.LinkLaws.{slot-most}
 
 -- how many arcs may lead to a side: none to slot 0, which is no side
 unfoldable pub room : ℕ → ℕ

@@ -13,11 +13,11 @@ use lib.Seq.{getD-set-same, getD-set-other}
 use lib.Dec.{eqb}
 use borrow.Author.Tests.{eqb-true, eqb-false}
 use Rattle.tables.proofs.Kept.{sets-snoc}
-use Rattle.control.specs.Words.{reference-room}
-use Rattle.tracks.specs.Walk.{among}
-use Rattle.tracks.proofs.Walking.{among-none, among-cases, among-neither}
-use Rattle.walks.specs.Columns.{at}
-use Rattle.walks.specs.Walked.{numbers-from, numbers, laid, marks-by}
+use Rattle.control.specs.words.Words.{reference-room}
+use Rattle.graphs.specs.Walk.{among}
+use Rattle.graphs.proofs.Walking.{among-none, among-cases, among-neither}
+use Rattle.links.specs.words.Columns.{at}
+use Rattle.walks.specs.code.Walked.{numbers-from, numbers, laid, marks-by}
 
 -- who is not among them keeps the word that there was
 numbers-other : (k : ℕ) (ns w : List ℕ) (n : ℕ) → among n ns ≡ false → getD (numbers-from k ns w) n 0 ≡ getD w n 0

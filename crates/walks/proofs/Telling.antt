@@ -12,35 +12,36 @@ use native.Mathlib.Nat.{add-assoc}
 use native.Mathlib.Numerals.{add-one}
 use lib.ListN.{length, getD, getElem?}
 use lib.Dec.{leb, ltb, eqb}
-use borrow.Author.Tests.{eqb-true, eqb-false, ne-eqb, ltb-true, ltb-false, le-ltb}
-use borrow.Author.Tests.{leb-true, leb-false, le-leb}
+use borrow.Author.Tests.{eqb-true, eqb-false, ne-eqb, ltb-true, ltb-false, le-ltb, leb-true, leb-false}
+use borrow.Author.Tests.{le-leb}
 use Rattle.lines.specs.Line.{choose}
-use Rattle.frames.specs.Kind as Kind
+use Rattle.kinds.specs.Kind as Kind
 use Rattle.frames.specs.TableFrame.{term-room, definition-room}
 use Rattle.tables.specs.Table.{Sofar, accepted, judged}
-use Rattle.tables.specs.Columns.{kinds, owners, afters, roots}
+use Rattle.tables.specs.words.Columns.{kinds, owners, afters, roots}
 use Rattle.terms.specs.Term.{Term, Operator, call, SKIP, STOP, internal, external, sequence, parallel, size}
-use Rattle.terms.specs.Term.{leaf-kind, operator-kind, definitions-of, Holds}
+use Rattle.terms.specs.Term.{leaf-kind, operator-kind, definitions-of}
+use Rattle.terms.specs.words.Held.{Holds}
 use Rattle.terms.specs.Term as Term
 use Rattle.terms.proofs.Held.{holds-behind, size-some}
 use Rattle.places.specs.Place.{Place, path-in, term-at, left-path, own, event, begins, under}
-use Rattle.places.specs.Code.{look, columns}
-use Rattle.places.proofs.Ways.{look-in}
+use Rattle.columns.specs.words.Columns.{look, columns}
+use Rattle.columns.proofs.Laws.{look-in}
 use Rattle.places.proofs.Sides.{Side, first, second, side-inside}
 use Rattle.places.proofs.Laws.{own-found, event-found, left-apart, holds-at, Defined, checked-roots}
-use Rattle.report.specs.Track.{lookup}
-use Rattle.plans.specs.Plan.{Layout}
-use Rattle.plans.specs.Laid.{layout}
+use Rattle.rules.specs.Track.{lookup}
+use Rattle.plans.specs.words.Plan.{Layout}
+use Rattle.plans.specs.words.Layout.{layout}
 use Rattle.plans.proofs.LaidMarks.{InTable, own-sited, event-sited}
-use Rattle.stepping.specs.Views.{place-told}
-use Rattle.tracks.specs.Graph.{Graph, present, labelled}
-use Rattle.tracks.specs.Shape.{in-definition, in-term, splits-term, splits-literal}
-use Rattle.tracks.specs.Shape as Shape
-use Rattle.tracks.proofs.Pairs.{refuted}
-use Rattle.walks.specs.Columns.{at}
-use Rattle.walks.specs.Linked.{term-of, splits, side-of, slot}
-use Rattle.walks.proofs.SideLaws.{runs, runs-in, runs-before, runs-behind, runs-true, runs-moved}
-use Rattle.walks.proofs.SideLaws.{Tail, term-fits, side-begins}
+use Rattle.control.specs.words.Views.{place-told}
+use Rattle.graphs.specs.Graph.{Graph, present, labelled}
+use Rattle.graphs.specs.Shape.{in-definition, in-term, splits-term, splits-literal}
+use Rattle.graphs.specs.Shape as Shape
+use Rattle.graphs.proofs.Pairs.{refuted}
+use Rattle.links.specs.words.Columns.{at}
+use Rattle.links.specs.code.Linked.{term-of, splits, side-of, slot}
+use Rattle.walks.proofs.SideLaws.{runs, runs-in, runs-before, runs-behind, runs-true, runs-moved, Tail}
+use Rattle.walks.proofs.SideLaws.{term-fits, side-begins}
 
 -- the place that a mark tells; 0 is no mark
 unfoldable pub mark-told : Layout → ℕ → Option Place

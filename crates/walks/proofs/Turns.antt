@@ -14,25 +14,15 @@ use lib.Seq.{sets, length-sets, getD-set-same, getD-set-other}
 use lib.Dec.{ltb, eqb}
 use borrow.Author.Tests.{ltb-true, eq-eqb, ne-eqb, lt-ltb, le-ltb}
 use Rattle.lines.specs.Line.{choose}
-use Rattle.places.specs.Code.{look}
-use Rattle.places.proofs.Ways.{look-in}
-use Rattle.control.specs.Words.{reference-room}
-use Rattle.tracks.specs.Walk.{among, walk}
-use Rattle.tracks.proofs.Walking.{
-  Distinct,
-  Within,
-  among-first,
-  distinct-more,
-  distinct-below,
-  within-append,
-  within-rest,
-  within-none,
-  within-one,
-  walk-over,
-}
-use Rattle.walks.specs.Columns.{at}
-use Rattle.walks.specs.Linked.{side-words, target, on}
-use Rattle.walks.specs.Walked.{first, walked, numbers-from, numbers, laid, marks-by}
+use Rattle.columns.specs.words.Columns.{look}
+use Rattle.columns.proofs.Laws.{look-in}
+use Rattle.control.specs.words.Words.{reference-room}
+use Rattle.graphs.specs.Walk.{among, walk}
+use Rattle.graphs.proofs.Walking.{Distinct, Within, among-first, distinct-more, distinct-below, within-append}
+use Rattle.graphs.proofs.Walking.{within-rest, within-none, within-one, walk-over}
+use Rattle.links.specs.words.Columns.{at}
+use Rattle.links.specs.code.Linked.{side-words, target, on}
+use Rattle.walks.specs.code.Walked.{first, walked, numbers-from, numbers, laid, marks-by}
 use Rattle.walks.proofs.Numbering.{unnumbered, has-number, next-number, next-label}
 
 -- a reference of a graph, and several

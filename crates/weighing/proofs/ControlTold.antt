@@ -14,33 +14,33 @@ use borrow.Author.Tests.{eq-eqb, ne-eqb, eqb-true}
 use Rattle.lines.specs.Line.{choose}
 use Rattle.places.specs.Place.{Place}
 use Rattle.terms.specs.Term.{Term}
-use Rattle.report.specs.Process.{one, two, three, four, Address, Split, choice, together, Process, leaf, prefix}
-use Rattle.report.specs.Process.{internal, split, sequence, Ω, ⊥′, cells}
-use Rattle.report.specs.Track.{Pair, At, first-eval, inside, beside, parents, ended}
-use Rattle.report.specs.Step.{stepped, at-Ω, step}
-use Rattle.report.proofs.Offered.{is-Ω}
-use Rattle.plans.specs.Plan.{Layout, kind, second, around, Planned}
-use Rattle.control.specs.Words.{node}
-use Rattle.control.specs.Control as Control
-use Rattle.control.specs.Control.{state, term, frame, at-end, Around, split-kind, Untouched, Rests, Splits}
-use Rattle.control.specs.Control.{Holds}
-use Rattle.weighing.specs.Sums.{capped}
-use Rattle.weighing.specs.Rules as Rules
-use Rattle.weighing.specs.Rules.{resized}
-use Rattle.weighing.specs.Looking as Looking
-use Rattle.weighing.specs.Looking.{is-side, taken, is-within, weigh-end}
-use Rattle.weighing.specs.Weigh.{by-digit, at-reference}
-use Rattle.weighing.specs.declared.Weighed.the-variants.{Nothing}
-use Rattle.weighing.proofs.Counts.{capped-small}
-use Rattle.weighing.proofs.Told.{told, number, From, weight, weight-of, wrapped, Single}
+use Rattle.rules.specs.Process.{one, two, three, four, Address, Split, choice, together, Process, leaf}
+use Rattle.rules.specs.Process.{prefix, internal, split, sequence, Ω, ⊥′, cells}
+use Rattle.rules.specs.Track.{Pair, At, first-eval, inside, beside, parents, ended}
+use Rattle.rules.specs.Step.{stepped, at-Ω, step}
+use Rattle.rules.proofs.Offered.{is-Ω}
+use Rattle.plans.specs.words.Plan.{Layout, kind, second, around, Planned}
+use Rattle.control.specs.words.Words.{node}
+use Rattle.control.specs.words.Control as Control
+use Rattle.control.specs.words.Control.{state, term, frame, at-end, Around, split-kind, Untouched, Rests}
+use Rattle.control.specs.words.Control.{Splits, Holds}
+use Rattle.control.specs.words.Sums.{capped}
+use Rattle.weights.specs.code.Rules as Rules
+use Rattle.weights.specs.code.Rules.{resized}
+use Rattle.looking.specs.code.Looking as Looking
+use Rattle.looking.specs.code.Looking.{is-side, taken, is-within}
+use Rattle.weighing.specs.code.Ending.{weigh-end}
+use Rattle.weighing.specs.code.Weigh.{by-digit, at-reference}
+use Rattle.weights.specs.declared.Weighed.the-variants.{Nothing}
+use Rattle.control.proofs.Capped.{capped-small}
+use Rattle.weighing.proofs.Told.{told, number, From, weight, weight-of, wrapped, Single, some-behind}
+use Rattle.weighing.proofs.Told.{weight-none, weight-settled, digit-none, next-at, from-at, from-left}
 use Rattle.control.proofs.Chains.{Awaiting as Behind, Tells as Behinds}
-use Rattle.weighing.proofs.Told.{some-behind, weight-none, weight-settled, digit-none, next-at, from-at}
-use Rattle.weighing.proofs.Told.{from-left}
 use Rattle.weighing.proofs.SideTold.{in-front, entered-before, by-first, by-second, by-both}
-use Rattle.weighing.proofs.TermTold.{levels, untouched-cells, untouched-on, next-term, set-in, split-some}
-use Rattle.weighing.proofs.TermTold.{alone, entered-other, term-told}
-use Rattle.weighing.proofs.Since.{Below, Since, since-inside, since-beside, since-start}
-use Rattle.weighing.proofs.Since.{parents-since, counted-few}
+use Rattle.weighing.proofs.TermTold.{levels, untouched-cells, untouched-on, next-term, set-in}
+use Rattle.weighing.proofs.TermTold.{split-some, alone, entered-other, term-told}
+use Rattle.weighing.proofs.Since.{Below, Since, since-inside, since-beside, since-start, parents-since}
+use Rattle.weighing.proofs.Since.{counted-few}
 
 -- how deep a process is gone into: an entered split, and its sides
 unfoldable pub deep : Process → ℕ

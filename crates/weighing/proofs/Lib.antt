@@ -3,13 +3,10 @@
 -- Of the report's steps, whose weights these are: `Counts` of counts that stop; `Told`, what a weight tells of a step,
 -- with the sequences around it; `SideTold`, a split's step by its sides; `TermTold`, a term that no step has touched;
 -- `Since`, the arcs of a run, and those of a step on its way; `ControlTold`, what stands at a reference.
-pub mod Laws
-pub mod RuleLaws
-pub mod LookLaws
 pub mod WeighLaws
-pub mod Counts
 pub mod Told
 pub mod SideTold
 pub mod TermTold
 pub mod Since
 pub mod ControlTold
+pub mod EndLaws

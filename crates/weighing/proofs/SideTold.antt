@@ -12,31 +12,30 @@ use native.Mathlib.Nat.{add-comm, zero-mul, suc-mul}
 use lib.ListN.{length, length-append}
 use lib.Dec.{eqb}
 use Rattle.lines.specs.Line.{choose}
-use Rattle.frames.specs.EventSet.{member}
-use Rattle.frames.specs.Kind as Kind
+use Rattle.sets.specs.EventSet.{member}
+use Rattle.kinds.specs.Kind as Kind
 use Rattle.places.specs.Place.{Place}
 use Rattle.terms.specs.Term.{Term}
-use Rattle.report.specs.Process.{Event, τ, ✓, visible, one, two, three, Address, Split, choice, together}
-use Rattle.report.specs.Process.{Process, split, cells}
-use Rattle.report.specs.Track.{At, Outcome, Entered, first-eval, inside, around, right-eval, right-inside}
-use Rattle.report.specs.Track.{each-with, meet, jointly}
-use Rattle.report.specs.Step.{Stepped, stepped, one-side, by-side, same, both-sides, with-right, then, step}
-use Rattle.plans.specs.Plan.{kind}
-use Rattle.control.specs.Control.{split-kind, split-set}
+use Rattle.rules.specs.Process.{Event, τ, ✓, visible, one, two, three, Address, Split, choice, together}
+use Rattle.rules.specs.Process.{Process, split, cells}
+use Rattle.rules.specs.Track.{At, Outcome, Entered, first-eval, inside, around, right-eval, right-inside}
+use Rattle.rules.specs.Track.{each-with, meet, jointly}
+use Rattle.rules.specs.Step.{Stepped, stepped, one-side, by-side, same, both-sides, with-right, then, step}
+use Rattle.plans.specs.words.Plan.{kind}
+use Rattle.control.specs.words.Control.{split-kind, split-set}
 use Rattle.control.specs.declared.Event as control
 use Rattle.control.specs.declared.Event.the-variants.{Tau, Tick, Visible}
-use Rattle.weighing.specs.Sums.{capped}
-use Rattle.weighing.specs.Looking.{is-side, set-of}
-use Rattle.weighing.specs.Rules as Rules
-use Rattle.weighing.specs.Rules.{settled, resized, entering, end-of}
-use Rattle.weighing.specs.Weigh.{by-digit}
-use Rattle.weighing.specs.declared.Weighed.{Weighed}
-use Rattle.weighing.specs.declared.Weighed.the-variants.{Derived, Nothing}
-use Rattle.weighing.proofs.Counts.{capped-sum, capped-left, capped-right, capped-product}
-use Rattle.weighing.proofs.Told.{told, weight, weight-of, wrapped, Single, some-behind}
+use Rattle.control.specs.words.Sums.{capped}
+use Rattle.looking.specs.code.Looking.{is-side, set-of}
+use Rattle.weights.specs.code.Rules as Rules
+use Rattle.weights.specs.code.Rules.{settled, resized, entering, end-of}
+use Rattle.weighing.specs.code.Weigh.{by-digit}
+use Rattle.weights.specs.declared.Weighed.{Weighed}
+use Rattle.weights.specs.declared.Weighed.the-variants.{Derived, Nothing}
+use Rattle.control.proofs.Capped.{capped-sum, capped-left, capped-right, capped-product}
+use Rattle.weighing.proofs.Told.{told, weight, weight-of, wrapped, Single, some-behind, weight-none}
+use Rattle.weighing.proofs.Told.{τ-goes-on, visible-goes-on, weight-on, weight-settled, ends-single}
 use Rattle.control.proofs.Chains.{Awaiting as Behind}
-use Rattle.weighing.proofs.Told.{weight-none, τ-goes-on, visible-goes-on, weight-on, weight-settled}
-use Rattle.weighing.proofs.Told.{ends-single}
 
 -- what entering a side adds, in front of what the side does
 unfoldable pub in-front : Entered → Option Stepped → Option Stepped

@@ -13,15 +13,15 @@ use borrow.Author.Tests.{ne-eqb, eq-eqb, ltb-true, lt-ltb, eqb-true, eqb-false}
 use Rattle.lines.specs.Line.{choose}
 use Rattle.places.specs.Place.{Place}
 use Rattle.terms.specs.Term.{Term}
-use Rattle.report.specs.Process.{Address, Process, leaf, prefix, internal, split, sequence, Ω, ⊥′}
-use Rattle.report.specs.Track.{Pair, pair, At, first-eval, inside, beside, leads, parents}
-use Rattle.report.specs.Step.{Stepped, step}
-use Rattle.report.proofs.Derived.{step-derived}
-use Rattle.report.proofs.Drawn.{Side, Rooted}
-use Rattle.report.proofs.Climbing.{Up, into-below}
-use Rattle.report.proofs.Outward.{Outward, outward-less, outward-append, entering-draws, draws}
-use Rattle.control.specs.Words.{track-word}
-use Rattle.weighing.specs.Looking as Looking
+use Rattle.rules.specs.Process.{Address, Process, leaf, prefix, internal, split, sequence, Ω, ⊥′}
+use Rattle.rules.specs.Track.{Pair, pair, At, first-eval, inside, beside, leads, parents}
+use Rattle.rules.specs.Step.{Stepped, step}
+use Rattle.rules.proofs.Derived.{step-derived}
+use Rattle.rules.proofs.Drawn.{Side, Rooted}
+use Rattle.rules.proofs.Climbing.{Up, into-below}
+use Rattle.rules.proofs.Outward.{Outward, outward-less, outward-append, entering-draws, draws}
+use Rattle.control.specs.words.Words.{track-word}
+use Rattle.looking.specs.code.Looking as Looking
 
 -- every reference that a process holds is below f
 abbrev pub Under : ℕ → Option ℕ → Type 0

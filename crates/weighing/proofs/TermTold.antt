@@ -15,24 +15,24 @@ use Rattle.frames.specs.TableFrame.{term-room, path-room}
 use Rattle.places.specs.Place.{Place}
 use Rattle.terms.specs.Term.{Leaf, call, SKIP, STOP, internal, external, sequence, parallel, Term, leaf}
 use Rattle.terms.specs.Term.{prefix, binary, leaf-kind, operator-kind, operator-payload, Shallow}
-use Rattle.report.specs.Process.{Event, τ, ✓, visible, one, two, three, four, Address, Split, choice, together}
-use Rattle.report.specs.Process.{Process, split, cells, below, joined, untouched, right-side, rhs, Ω, ⊥′}
-use Rattle.report.specs.Track.{At, Outcome, labelled, prefixed, first-eval, inside, beside}
-use Rattle.report.specs.Step.{stepped, at-Ω, step}
-use Rattle.plans.specs.Plan.{Layout, word, kind, second, around, first-around, second-around, Planned}
-use Rattle.control.specs.Control.{split-kind, split-set}
+use Rattle.rules.specs.Process.{Event, τ, ✓, visible, one, two, three, four, Address, Split, choice, together}
+use Rattle.rules.specs.Process.{Process, split, cells, below, joined, untouched, right-side, rhs, Ω, ⊥′}
+use Rattle.rules.specs.Track.{At, Outcome, labelled, prefixed, first-eval, inside, beside}
+use Rattle.rules.specs.Step.{stepped, at-Ω, step}
+use Rattle.plans.specs.words.Plan.{Layout, word, kind, second, around, first-around, second-around, Planned}
+use Rattle.control.specs.words.Control.{split-kind, split-set}
 use Rattle.control.specs.declared.Event as control
-use Rattle.weighing.specs.Sums.{capped}
-use Rattle.weighing.specs.Rules as Rules
-use Rattle.weighing.specs.Rules.{settled, resized, entering, by-leaf}
-use Rattle.weighing.specs.Looking.{digit-at, is-split, is-side, taken, is-within, set-of}
-use Rattle.weighing.specs.Weigh.{by-digit, of-term}
-use Rattle.weighing.specs.declared.Weighed.the-variants.{Nothing}
-use Rattle.weighing.proofs.Counts.{capped-small}
-use Rattle.weighing.proofs.Told.{told, number, From, weight, weight-of, wrapped, Single}
+use Rattle.control.specs.words.Sums.{capped}
+use Rattle.weights.specs.code.Rules as Rules
+use Rattle.weights.specs.code.Rules.{settled, resized, entering, by-leaf}
+use Rattle.looking.specs.code.Looking.{digit-at, is-split, is-side, taken, is-within, set-of}
+use Rattle.weighing.specs.code.Weigh.{by-digit, of-term}
+use Rattle.weights.specs.declared.Weighed.the-variants.{Nothing}
+use Rattle.control.proofs.Capped.{capped-small}
+use Rattle.weighing.proofs.Told.{told, number, From, weight, weight-of, wrapped, Single, some-behind}
+use Rattle.weighing.proofs.Told.{weight-none, τ-goes-on, visible-goes-on, weight-inside, weight-on}
+use Rattle.weighing.proofs.Told.{weight-settled, digit-none, next-at, from-at, from-left}
 use Rattle.control.proofs.Chains.{Awaiting as Behind}
-use Rattle.weighing.proofs.Told.{some-behind, weight-none, τ-goes-on, visible-goes-on, weight-inside}
-use Rattle.weighing.proofs.Told.{weight-on, weight-settled, digit-none, next-at, from-at, from-left}
 use Rattle.weighing.proofs.SideTold.{in-front, entered-now, by-first, by-second, by-both}
 
 -- the levels of a term: a prefix hides what is below it

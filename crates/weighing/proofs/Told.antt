@@ -15,23 +15,24 @@ use borrow.Author.Tests.{ltb-true, le-ltb}
 use Rattle.lines.specs.Line.{choose}
 use Rattle.places.specs.Place.{Place}
 use Rattle.terms.specs.Term.{Term}
-use Rattle.report.specs.Process.{τ, ✓, visible, Digit, one, two, three, four, Address, Process, sequence, cells}
-use Rattle.report.specs.Process as Live
-use Rattle.report.specs.Track.{pair, At, Outcome, carried, started}
-use Rattle.report.specs.Step.{Stepped, stepped, in-sequence, by-left, step}
-use Rattle.report.proofs.Derived.{step-derived}
-use Rattle.report.proofs.Stripped.{ends-at-Ω}
+use Rattle.rules.specs.Process.{τ, ✓, visible, Digit, one, two, three, four, Address, Process, sequence}
+use Rattle.rules.specs.Process.{cells}
+use Rattle.rules.specs.Process as Live
+use Rattle.rules.specs.Track.{pair, At, Outcome, carried, started}
+use Rattle.rules.specs.Step.{Stepped, stepped, in-sequence, by-left, step}
+use Rattle.rules.proofs.Derived.{step-derived}
+use Rattle.rules.proofs.Stripped.{ends-at-Ω}
 use Rattle.control.proofs.Chains.{Awaiting as Behind}
 use Rattle.control.specs.declared.Event.{Event}
 use Rattle.control.specs.declared.Event.the-variants.{Tau, Tick, Visible}
-use Rattle.weighing.specs.Sums.{capped}
-use Rattle.weighing.specs.Looking.{digit-at}
-use Rattle.weighing.specs.Rules as Rules
-use Rattle.weighing.specs.Rules.{settled, resized}
-use Rattle.weighing.specs.declared.Weight.{Weight}
-use Rattle.weighing.specs.declared.Weighed.{Weighed}
-use Rattle.weighing.specs.declared.Weighed.the-variants.{Derived, Nothing}
-use Rattle.weighing.proofs.Counts.{capped-small, capped-left}
+use Rattle.control.specs.words.Sums.{capped}
+use Rattle.looking.specs.code.Looking.{digit-at}
+use Rattle.weights.specs.code.Rules as Rules
+use Rattle.weights.specs.code.Rules.{settled, resized}
+use Rattle.weights.specs.declared.Weight.{Weight}
+use Rattle.weights.specs.declared.Weighed.{Weighed}
+use Rattle.weights.specs.declared.Weighed.the-variants.{Derived, Nothing}
+use Rattle.control.proofs.Capped.{capped-small, capped-left}
 
 -- events and digits as the code has them
 unfoldable pub told : Live.Event → Event

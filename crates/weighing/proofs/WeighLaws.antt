@@ -7,17 +7,17 @@ use mathlib.Core.Bool.{Bool, true, false, not}
 use mathlib.Core.List.{List}
 use lib.Dec.{eqb}
 use borrow.Author.Tests.{eq-eqb, ne-eqb, not-true, not-false}
-use Rattle.frames.specs.Kind as Kind
-use Rattle.plans.specs.Plan.{kind, operand, second, around}
-use Rattle.control.specs.Words.{node}
-use Rattle.control.specs.Control.{state, term, frame, resting, entered}
-use Rattle.weighing.specs.Sums.{capped}
-use Rattle.weighing.specs.Rules.{by-leaf, entering, end-of, one, both}
-use Rattle.weighing.specs.Looking.{digit-at, is-split, is-side, taken, is-within, set-of, inside}
-use Rattle.weighing.specs.Looking.{weigh-end}
-use Rattle.weighing.specs.Weigh.{levels, by-digit, of-term, at-reference}
-use Rattle.weighing.specs.declared.Weighed.{Weighed}
-use Rattle.weighing.specs.declared.Weighed.the-variants.{Nothing}
+use Rattle.kinds.specs.Kind as Kind
+use Rattle.plans.specs.words.Plan.{kind, operand, second, around}
+use Rattle.control.specs.words.Words.{node}
+use Rattle.control.specs.words.Control.{state, term, frame, resting, entered}
+use Rattle.control.specs.words.Sums.{capped}
+use Rattle.weights.specs.code.Rules.{by-leaf, entering, end-of, one, both}
+use Rattle.looking.specs.code.Looking.{digit-at, is-split, is-side, taken, is-within, set-of, inside}
+use Rattle.weighing.specs.code.Ending.{weigh-end}
+use Rattle.weighing.specs.code.Weigh.{levels, by-digit, of-term, at-reference}
+use Rattle.weights.specs.declared.Weighed.{Weighed}
+use Rattle.weights.specs.declared.Weighed.the-variants.{Nothing}
 
 -- a split's step by a digit
 module _ (p x : List ℕ) (count : ℕ) (ds : List ℕ) (d t : ℕ) (found : Weighed) (across : ℕ → Weighed)

@@ -1,5 +1,2 @@
 -- Weighing a step: `Sums` of counts, `Rules` of weights, `Looking` at what stands on the way, and `Weigh`.
-pub mod Sums
-pub mod Rules
-pub mod Looking
-pub mod Weigh
+pub mod code

@@ -1,66 +1,43 @@
 // Weighing a step: what the derivation that an address names would show and add, read off the control and the
 // terms below it, from the outside inward. Nothing is written. The recursion goes at most 2,048 calls deep.
-mod looking;
-mod rules;
-mod sums;
-
 use control::ENTERED;
-use control::Event;
 use control::FRAME;
+use control::OMEGA;
 use control::SIDES;
 use control::SIZES;
 use control::STATE;
 use control::TERM;
 use control::UNTOUCHED;
+use control::less;
+use control::sum;
 use control::word;
-pub use looking::beyond;
-pub use looking::digit_at;
-pub use looking::inside_of;
+use looking::digit_at;
+use looking::inside_of;
 use looking::is_side;
-pub use looking::is_split;
+use looking::is_split;
 use looking::is_within;
-pub use looking::leads;
+use looking::parents;
 use looking::set_of;
-pub use looking::taken;
-use looking::weigh_end;
+use looking::taken;
 use plans::around_of;
 use plans::kind_of;
 use plans::operand_of;
 use plans::second_of;
-use rules::both;
-use rules::by_leaf;
-use rules::end_of;
-use rules::entering;
-use rules::one;
-pub use rules::shown;
-pub use rules::stays;
-pub use sums::less;
-pub use sums::sum;
+use weights::Weighed;
+use weights::both;
+use weights::by_leaf;
+use weights::end_of;
+use weights::ended;
+use weights::entering;
+use weights::one;
 ghost use mathlib.Core.Path.{_≡_};
-ghost use Rattle.weighing.specs.Weigh as spec;
+ghost use Rattle.weighing.specs.code.Weigh as spec;
+ghost use Rattle.weighing.specs.code.Ending as ending;
 
 const SEQUENCE: usize = 5;
 
 // How many levels of a term are gone down to, at most: a path has at most 64 digits.
 const LEVELS: usize = 66;
-
-// What a derivation would show and add: its event; where its digits end; the cells of its part of control after
-// it; and how many nodes, arcs, meetings and event nodes it adds.
-pub struct Weight {
-    pub event: Event,
-    pub at: usize,
-    pub size: usize,
-    pub nodes: usize,
-    pub arcs: usize,
-    pub meetings: usize,
-    pub met: usize,
-}
-
-// A derivation's weight, or that there is none.
-pub enum Weighed {
-    Derived(Weight),
-    Nothing,
-}
 
 // Weighs the step of a term that no step has touched, by the digits from `at` on; `nested` where a sequence is
 // around it by its frame. Its part of control has `size` cells.
@@ -217,4 +194,33 @@ pub fn weigh_at(
         track,
     );
     both(kind, set, found, across, size, own, other)
+}
+
+const PARALLEL: usize = 6;
+
+// Weighs the end of a parallel whose sides have ended.
+pub fn weigh_end(
+    n: usize,
+    kind: usize,
+    at: usize,
+    size: usize,
+    within: bool,
+    arcs: usize,
+    nodes: &[u16; 65544],
+    track: &[u16; 28672],
+) -> Weighed
+    ensures { λ r. ⌜ r ≡ ending.weigh-end (now (nodes .entry)) (now (track .entry)) arcs n kind at size within ⌝ }
+{
+    if kind != PARALLEL {
+        return Weighed::Nothing;
+    }
+    let first = word(n, SIDES + 1, nodes);
+    let second = word(n, SIDES + 2, nodes);
+    if word(first, STATE, nodes) != OMEGA {
+        return Weighed::Nothing;
+    }
+    if word(second, STATE, nodes) != OMEGA {
+        return Weighed::Nothing;
+    }
+    ended(at, size, parents(first, second, arcs, track), within)
 }

@@ -13,18 +13,19 @@ use Rattle.lines.specs.Line.{two, text}
 use Rattle.spelling.specs.Puts.{Puts}
 use Rattle.spelling.proofs.Putting.{puts-then}
 use Rattle.spelling.proofs.Spelt.{text-append}
-use Rattle.report.specs.Run.{arc-room, meeting-room}
-use Rattle.control.specs.Words.{reference-room}
-use Rattle.places.specs.Code.{Columns}
-use Rattle.stepping.specs.Views.{pairs}
-use Rattle.tracks.specs.Graph.{Graph}
-use Rattle.tracks.specs.Saved.{opening-frame, node-frame, pair-frame, arc-code, meeting-code, last-frame}
-use Rattle.tracks.specs.Saved.{frames, graph-text}
-use Rattle.tracks.proofs.Spelled.{nodes-length, text-length}
-use Rattle.walks.specs.declared.Counts.{Counts}
+use Rattle.rules.specs.Run.{arc-room, meeting-room}
+use Rattle.control.specs.words.Words.{reference-room}
+use Rattle.columns.specs.words.Columns.{Columns}
+use Rattle.control.specs.words.Views.{pairs}
+use Rattle.graphs.specs.Graph.{Graph}
+use Rattle.graphs.specs.Saved.{opening-frame, node-frame, pair-frame, arc-code, meeting-code, last-frame}
+use Rattle.graphs.specs.Saved.{frames, graph-text}
+use Rattle.graphs.proofs.Spelled.{nodes-length, text-length}
+use Rattle.links.specs.declared.Counts.{Counts}
 use Rattle.writing.specs.declared.Saved.the-variants.{Written, Short}
-use Rattle.writing.specs.Told.{labels-told, graph-told, answer, left}
-use Rattle.writing.proofs.Spelt.{pairs-count, nodes-count}
+use Rattle.framing.specs.words.Told.{labels-told, graph-told}
+use Rattle.writing.specs.words.Slice.{answer, left}
+use Rattle.framing.proofs.Spelt.{pairs-count, nodes-count}
 
 -- the text of a graph, a part behind another
 parts : (g : Graph)

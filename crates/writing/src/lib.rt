@@ -1,20 +1,18 @@
 // Graphs written: a graph in columns becomes lines of hexadecimal in a lent slice. Its length is told first, so that a slice
 // that is too short is left as it was.
-mod framing;
-mod nodes;
-
+use framing::nodes_length;
 use framing::put_last;
+use framing::put_nodes;
 use framing::put_opening;
 use framing::put_pairs;
-use nodes::nodes_length;
-use nodes::put_nodes;
-use walks::Counts;
-use walks::at_most;
+use links::Counts;
+use links::at_most;
 ghost use mathlib.Core.Path.{_≡_};
 ghost use lib.ListN.{length};
-ghost use Rattle.places.specs.Code.{columns};
-ghost use Rattle.tracks.specs.Saved.{graph-text};
-ghost use Rattle.writing.specs.Told.{graph-told, answer, left, refusal};
+ghost use Rattle.columns.specs.words.Columns.{columns};
+ghost use Rattle.graphs.specs.Saved.{graph-text};
+ghost use Rattle.framing.specs.words.Told.{graph-told};
+ghost use Rattle.writing.specs.words.Slice.{answer, left, refusal};
 
 // Rooms of a graph in columns.
 const REFERENCES: usize = 8193;

@@ -6,7 +6,7 @@ use mathlib.Core.Path.{_≡_}
 use borrow.Author.Needs.{needs}
 use native.Mathlib.Omega.{arith}
 use lib.ListN.{length, drop}
-use Rattle.inputs.specs.Code.{line-length}
+use Rattle.inputs.specs.code.Lengths.{line-length}
 use Rattle.inputs.proofs.Cutting.{line-over, line-ends, line-goes-on}
 use Rattle.inputs.proofs.line_length.Statement.{statement}
 use Rattle.inputs.proofs.line_length.Tie as tie

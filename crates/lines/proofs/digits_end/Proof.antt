@@ -5,7 +5,7 @@ use mathlib.Core.Path.{_≡_}
 use borrow.Author.Needs.{needs}
 use native.Mathlib.Omega.{arith}
 use lib.ListN.{length, drop}
-use Rattle.lines.specs.Code.{run}
+use Rattle.lines.specs.code.Characters.{run}
 use Rattle.lines.proofs.Digits.{run-end, run-stop, run-more}
 use Rattle.lines.proofs.digits_end.Statement.{statement}
 use Rattle.lines.proofs.digits_end.Tie as tie

@@ -5,7 +5,8 @@ use Prim.Native.Nat.{_-_}
 use borrow.Author.Needs.{needs}
 use native.Mathlib.Omega.{arith}
 use lib.ListN.{length}
-use Rattle.listing.proofs.Stepping.{Going, going-starts, going-length, going-stops, going-on, going-turn}
+use Rattle.listing.proofs.Stepping.{Going, going-starts, going-length, going-stops, going-on}
+use Rattle.listing.proofs.Stepping.{going-turn}
 use Rattle.listing.proofs.put_steps.Statement.{statement}
 use Rattle.listing.proofs.put_steps.Tie as tie
 

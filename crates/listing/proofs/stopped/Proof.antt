@@ -2,7 +2,7 @@
 -- for it. Assumes nothing.
 use mathlib.Core.Path.{refl, sym, ap}
 use borrow.Author.Needs.{needs}
-use Rattle.listing.specs.Code.{number-of}
+use Rattle.listing.specs.code.Told.{number-of}
 use Rattle.listing.proofs.stopped.Statement.{statement}
 use Rattle.listing.proofs.stopped.Tie as tie
 

@@ -6,7 +6,7 @@ use mathlib.Core.Path.{refl}
 use native.Mathlib.Omega.{arith}
 use lib.ListN.{replicate, length-replicate}
 use borrow.Author.Needs.{needs}
-use Rattle.numbering.proofs.Listed.{put-long}
+use Rattle.links.proofs.Listed.{put-long}
 use Rattle.numbering.proofs.Assembled.{nodes-most, nodes-above, assembled}
 use Rattle.numbering.proofs.number.Statement.{statement}
 use Rattle.numbering.proofs.number.Tie as tie

@@ -1,5 +1,5 @@
 -- `offers::set_of` meets its contract, in range and out of it. Assumes nothing.
-use Rattle.places.proofs.Ways.{look-in, look-out}
+use Rattle.columns.proofs.Laws.{look-in, look-out}
 use borrow.Author.Needs.{needs}
 use Rattle.offers.proofs.set_of.Statement.{statement}
 use Rattle.offers.proofs.set_of.Tie as tie

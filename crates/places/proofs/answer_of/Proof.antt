@@ -1,6 +1,6 @@
 -- `places::answer_of` meets its contract: each arm is a clause of `placed`. Assumes nothing.
 use mathlib.Core.Path.{sym, ap}
-use Rattle.places.specs.Code.{placed}
+use Rattle.places.specs.code.Descent.{placed}
 use borrow.Author.Needs.{needs}
 use Rattle.places.proofs.answer_of.Statement.{statement}
 use Rattle.places.proofs.answer_of.Tie as tie

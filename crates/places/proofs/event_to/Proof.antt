@@ -2,7 +2,7 @@
 -- 63 digits, so that the event's digit fits behind it. Assumes nothing.
 use native.Mathlib.Omega.{arith}
 use mathlib.Core.Path.{_∙_, sym}
-use Rattle.places.specs.Code.{columns}
+use Rattle.columns.specs.words.Columns.{columns}
 use Rattle.places.proofs.Literals.{event-none, event-astray, event-room, event-ends}
 use borrow.Author.Needs.{needs}
 use Rattle.places.proofs.event_to.Statement.{statement}

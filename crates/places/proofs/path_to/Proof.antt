@@ -1,7 +1,7 @@
 -- `places::path_to` meets its contract: the way is followed from the root of the definition that
 -- owns the term. Assumes nothing.
 use mathlib.Core.Path.{_∙_, ap}
-use Rattle.places.specs.Code.{look, columns}
+use Rattle.columns.specs.words.Columns.{look, columns}
 use Rattle.places.proofs.Literals.{own-path}
 use borrow.Author.Needs.{needs}
 use Rattle.places.proofs.path_to.Statement.{statement}

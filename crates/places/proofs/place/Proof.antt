@@ -1,5 +1,5 @@
 -- `places::place` meets its contract: each arm answers by the path of its kind of literal. Assumes nothing.
-use Rattle.places.specs.Code.{columns}
+use Rattle.columns.specs.words.Columns.{columns}
 use Rattle.places.proofs.Literals.{left-placed, own-placed, event-placed}
 use borrow.Author.Needs.{needs}
 use Rattle.places.proofs.place.Statement.{statement}

@@ -4,8 +4,8 @@ use mathlib.Core.Logic.{inl, inr}
 use mathlib.Core.Path.{refl}
 use native.Mathlib.Omega.{arith}
 use borrow.Author.Needs.{needs}
-use Rattle.reading.proofs.Gone.{counts, nodes-read, pairs-read, failed-done, nodes-stopped, arcs-stopped}
-use Rattle.reading.proofs.Gone.{meetings-stopped, last-stopped, all-done}
+use Rattle.reading.proofs.Gone.{counts, nodes-read, pairs-read, failed-done, nodes-stopped}
+use Rattle.reading.proofs.Gone.{arcs-stopped, meetings-stopped, last-stopped, all-done}
 use Rattle.reading.proofs.read_lines.Statement.{statement}
 use Rattle.reading.proofs.read_lines.Tie as tie
 

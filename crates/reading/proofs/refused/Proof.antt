@@ -1,7 +1,7 @@
 -- `reading::refused` meets its contract: each arm knows the variant. Assumes nothing.
 use mathlib.Core.Path.{sym, ap}
 use borrow.Author.Needs.{needs}
-use Rattle.reading.specs.Outcome.{stopped}
+use Rattle.reading.specs.code.Outcome.{stopped}
 use Rattle.reading.proofs.refused.Statement.{statement}
 use Rattle.reading.proofs.refused.Tie as tie
 

@@ -1,7 +1,7 @@
 -- `reading::refused_first` meets its contract: each arm knows the variant. Assumes nothing.
 use mathlib.Core.Path.{sym, ap}
 use borrow.Author.Needs.{needs}
-use Rattle.reading.specs.Outcome.{failed}
+use Rattle.reading.specs.code.Outcome.{failed}
 use Rattle.reading.proofs.refused_first.Statement.{statement}
 use Rattle.reading.proofs.refused_first.Tie as tie
 

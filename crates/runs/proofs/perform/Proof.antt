@@ -1,5 +1,5 @@
 -- `runs::perform` meets its contract, by whether the run has started. Assumes nothing.
-use Rattle.runs.proofs.DoorLaws.{performed-start, performed-on}
+use Rattle.runs.proofs.Laws.{performed-start, performed-on}
 use borrow.Author.Needs.{needs}
 use Rattle.runs.proofs.perform.Statement.{statement}
 use Rattle.runs.proofs.perform.Tie as tie

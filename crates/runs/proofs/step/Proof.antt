@@ -1,7 +1,7 @@
 -- `runs::step` meets its contract: a step without a derivation, one with digits left over and one that passes
 -- a room leave every word as it was; else the words are those of the step that is taken. What that says of a run is
 -- `promised`. Assumes nothing.
-use Rattle.runs.proofs.DoorLaws.{none-derived, digits-left, room-passed, step-taken}
+use Rattle.runs.proofs.Laws.{none-derived, digits-left, room-passed, step-taken}
 use Rattle.runs.proofs.Promises.{promised}
 use borrow.Author.Needs.{needs}
 use Rattle.runs.proofs.step.Statement.{statement}

@@ -1,5 +1,5 @@
 -- `runs::weigh` meets its contract, by whether the run has started. Assumes nothing.
-use Rattle.runs.proofs.DoorLaws.{weight-start, weight-on}
+use Rattle.runs.proofs.Laws.{weight-start, weight-on}
 use borrow.Author.Needs.{needs}
 use Rattle.runs.proofs.weigh.Statement.{statement}
 use Rattle.runs.proofs.weigh.Tie as tie

@@ -3,8 +3,8 @@
 use Prim.Native.Nat.{_≤_, _-_}
 use mathlib.Core.Path.{_≡_}
 use native.Mathlib.Omega.{arith}
-use Rattle.walks.specs.Walked.{laid}
-use Rattle.saving.specs.Code.{marks-from}
+use Rattle.walks.specs.code.Walked.{laid}
+use Rattle.saving.specs.code.Saving.{marks-from}
 use Rattle.saving.proofs.MarkLaws.{none-taken, mark-taken}
 use Rattle.saving.proofs.take_marks.Statement.{statement}
 use Rattle.saving.proofs.take_marks.Tie as tie

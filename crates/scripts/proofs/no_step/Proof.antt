@@ -2,7 +2,7 @@
 -- has for it. Assumes nothing.
 use mathlib.Core.Path.{sym, ap}
 use borrow.Author.Needs.{needs}
-use Rattle.scripts.specs.Code.{without-line}
+use Rattle.scripts.specs.code.Answers.{without-line}
 use Rattle.scripts.proofs.no_step.Statement.{statement}
 use Rattle.scripts.proofs.no_step.Tie as tie
 

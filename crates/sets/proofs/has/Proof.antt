@@ -2,7 +2,7 @@
 -- its width. Assumes nothing.
 use mathlib.Core.Path.{sym, refl}
 use borrow.Author.Needs.{needs}
-use Rattle.frames.specs.EventSet.{member}
+use Rattle.sets.specs.EventSet.{member}
 use Rattle.sets.proofs.Bits.{none-past}
 use Rattle.sets.proofs.has.Statement.{statement}
 use Rattle.sets.proofs.has.Tie as tie

@@ -3,7 +3,7 @@
 use mathlib.Core.Path.{ap, _∙_}
 use borrow.Author.Needs.{needs}
 use borrow.Author.Tests.{lt-ltb, le-ltb}
-use Rattle.frames.specs.EventSet.{member}
+use Rattle.sets.specs.EventSet.{member}
 use Rattle.sets.proofs.Bits.{none-in-zero, one-shifted, member-power}
 use Rattle.sets.proofs.only.Statement.{statement}
 use Rattle.sets.proofs.only.Tie as tie

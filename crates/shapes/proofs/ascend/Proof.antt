@@ -4,15 +4,8 @@ use Prim.Native.Nat.{_-_}
 use mathlib.Core.Logic.{⊎-elim}
 use borrow.Author.Needs.{needs}
 use native.Mathlib.Omega.{arith}
-use Rattle.shapes.proofs.RuleTests.{
-  Ascended,
-  none-compared,
-  all-ascend,
-  pair-falls,
-  pair-rises,
-  pair-stays,
-  pair-next,
-}
+use Rattle.shapes.proofs.RuleTests.{Ascended, none-compared, all-ascend, pair-falls, pair-rises}
+use Rattle.shapes.proofs.RuleTests.{pair-stays, pair-next}
 use Rattle.shapes.proofs.ascend.Statement.{statement}
 use Rattle.shapes.proofs.ascend.Tie as tie
 

@@ -1,7 +1,7 @@
 -- `shapes::event_at` meets its contract, inside the column and past its end. Assumes nothing.
 use borrow.Author.Needs.{needs}
-use Rattle.places.proofs.Ways.{look-in, look-out}
-use Rattle.shapes.specs.Rules.{event-at}
+use Rattle.columns.proofs.Laws.{look-in, look-out}
+use Rattle.shapes.specs.code.Rules.{event-at}
 use Rattle.shapes.proofs.event_at.Statement.{statement}
 use Rattle.shapes.proofs.event_at.Tie as tie
 

@@ -1,14 +1,7 @@
 -- `shapes::has_shape` meets its contract, a law for each rule: where it is not met, all before it were. Assumes nothing.
 use borrow.Author.Needs.{needs}
-use Rattle.shapes.proofs.ShapeTested.{
-  unmarked,
-  arcs-unordered,
-  side-shared,
-  walk-partial,
-  walk-unordered,
-  meetings-unordered,
-  last-rules,
-}
+use Rattle.shapes.proofs.ShapeTested.{unmarked, arcs-unordered, side-shared, walk-partial}
+use Rattle.shapes.proofs.ShapeTested.{walk-unordered, meetings-unordered, last-rules}
 use Rattle.shapes.proofs.has_shape.Statement.{statement}
 use Rattle.shapes.proofs.has_shape.Tie as tie
 

@@ -4,18 +4,10 @@ use Prim.Native.Nat.{_+_, _-_}
 use lib.Dec.{eqb}
 use borrow.Author.Needs.{needs}
 use native.Mathlib.Omega.{arith}
-use Rattle.tracks.specs.Shape.{from-on}
-use Rattle.walks.specs.Columns.{at}
-use Rattle.shapes.proofs.RuleTests.{
-  told-equal,
-  told-other,
-  numbers-listed,
-  Passed,
-  none-tested,
-  test-passed,
-  test-failed,
-  all-passed,
-}
+use Rattle.graphs.specs.Shape.{from-on}
+use Rattle.links.specs.words.Columns.{at}
+use Rattle.shapes.proofs.RuleTests.{told-equal, told-other, numbers-listed, Passed, none-tested}
+use Rattle.shapes.proofs.RuleTests.{test-passed, test-failed, all-passed}
 use Rattle.shapes.proofs.in_order.Statement.{statement}
 use Rattle.shapes.proofs.in_order.Tie as tie
 

@@ -4,21 +4,10 @@ use Prim.Native.Nat.{_-_}
 use mathlib.Core.Path.{_∙_}
 use borrow.Author.Needs.{needs}
 use native.Mathlib.Omega.{arith}
-use Rattle.stepping.specs.Views.{pairs}
-use Rattle.shapes.proofs.RuleTests.{
-  told-broken,
-  told-met,
-  pairs-listed,
-  Passed,
-  none-tested,
-  test-passed,
-  test-failed,
-  all-passed,
-  every-both,
-  meets-well,
-  meeting-down,
-  meeting-up,
-}
+use Rattle.control.specs.words.Views.{pairs}
+use Rattle.shapes.proofs.RuleTests.{told-broken, told-met, pairs-listed, Passed, none-tested}
+use Rattle.shapes.proofs.RuleTests.{test-passed, test-failed, all-passed, every-both, meets-well}
+use Rattle.shapes.proofs.RuleTests.{meeting-down, meeting-up}
 use Rattle.shapes.proofs.join_events.Statement.{statement}
 use Rattle.shapes.proofs.join_events.Tie as tie
 

@@ -3,7 +3,7 @@
 use mathlib.Core.Path.{ap₂}
 use lib.Dec.{eqb}
 use borrow.Author.Needs.{needs}
-use Rattle.shapes.specs.Rules.{one-event}
+use Rattle.shapes.specs.code.Rules.{one-event}
 use Rattle.shapes.proofs.RuleTests.{rule-broken, rule-met, told-broken, told-met, event-least}
 use Rattle.shapes.proofs.of_one_event.Statement.{statement}
 use Rattle.shapes.proofs.of_one_event.Tie as tie

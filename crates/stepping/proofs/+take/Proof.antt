@@ -1,10 +1,10 @@
 -- `stepping::take` meets its contract, by what stands at the reference: a sequence, choice or parallel that
 -- no step has touched, another such term, or an entered split, whose digit names its end, one side, or both.
 -- The levels left fall at each call. Assumes nothing.
-use Rattle.weighing.proofs.Laws.{one-more}
-use Rattle.weighing.proofs.LookLaws.{side-few}
-use Rattle.stepping.proofs.TakeLaws.{take-spent, take-sequence, take-split}
-use Rattle.stepping.proofs.TakeLaws.{take-whole, take-the-end, take-one, take-both}
+use Rattle.control.proofs.Sums.{one-more}
+use Rattle.looking.proofs.LookLaws.{side-few}
+use Rattle.stepping.proofs.Laws.{take-spent, take-sequence, take-split, take-whole, take-the-end}
+use Rattle.stepping.proofs.Laws.{take-one, take-both}
 use Prim.Native.Nat.{ℕ, _<_}
 use borrow.Fn.Kinds.{In}
 use borrow.Fn.PlainCycle.{Measures, is, falls, and}
@@ -15,19 +15,19 @@ use Rattle.control.proofs.put.Reads as put-reads
 use Rattle.control.proofs.word.Reads as word-reads
 use Rattle.plans.proofs.kind_of.Reads as kind-of-reads
 use Rattle.plans.proofs.second_of.Reads as second-of-reads
-use Rattle.stepping.proofs.leaves.come.Reads as come-reads
-use Rattle.stepping.proofs.leaves.take_end.Reads as take-end-reads
-use Rattle.stepping.proofs.leaves.take_leaf.Reads as take-leaf-reads
-use Rattle.stepping.proofs.sides.close_both.Reads as close-both-reads
-use Rattle.stepping.proofs.sides.close_one.Reads as close-one-reads
-use Rattle.stepping.proofs.sides.enter.Reads as enter-reads
-use Rattle.stepping.proofs.sides.enter_side.Reads as enter-side-reads
-use Rattle.stepping.proofs.sides.put_side.Reads as put-side-reads
-use Rattle.weighing.proofs.digit_at.Reads as digit-at-reads
-use Rattle.weighing.proofs.inside_of.Reads as inside-of-reads
-use Rattle.weighing.proofs.is_split.Reads as is-split-reads
-use Rattle.weighing.proofs.taken.Reads as taken-reads
-use Rattle.weighing.proofs.sum.Reads as sum-reads
+use Rattle.leaves.proofs.come.Reads as come-reads
+use Rattle.leaves.proofs.take_end.Reads as take-end-reads
+use Rattle.leaves.proofs.take_leaf.Reads as take-leaf-reads
+use Rattle.sides.proofs.close_both.Reads as close-both-reads
+use Rattle.sides.proofs.close_one.Reads as close-one-reads
+use Rattle.sides.proofs.enter.Reads as enter-reads
+use Rattle.sides.proofs.enter_side.Reads as enter-side-reads
+use Rattle.sides.proofs.put_side.Reads as put-side-reads
+use Rattle.looking.proofs.digit_at.Reads as digit-at-reads
+use Rattle.looking.proofs.inside_of.Reads as inside-of-reads
+use Rattle.looking.proofs.is_split.Reads as is-split-reads
+use Rattle.looking.proofs.taken.Reads as taken-reads
+use Rattle.control.proofs.sum.Reads as sum-reads
 use Rattle.stepping.proofs.+take.{statement}
 use Rattle.stepping.proofs.+take.Tie.{close}
 use borrow.Author.Needs.{needs}

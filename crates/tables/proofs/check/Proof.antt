@@ -2,7 +2,7 @@
 -- it are refused leave the columns as they were; else what `body` and `walk` leave in the check's own columns
 -- is what the table's columns are. Assumes nothing.
 use mathlib.Core.Path.{_∙_, sym, ap, refl}
-use Rattle.tables.specs.Columns.{answer}
+use Rattle.tables.specs.words.Columns.{answer}
 use Rattle.tables.proofs.Whole.{table-opens, table-fails, judged-within, judged-over, answer-refuses}
 use Rattle.tables.proofs.Whole.{answer-accepts, refuses, accepts, failure-is}
 use borrow.Author.Needs.{needs}

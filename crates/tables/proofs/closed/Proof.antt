@@ -1,7 +1,7 @@
 -- `tables::closed` meets its contract: each arm knows what the line finder answers behind the last line, and a
 -- law of `Loop` says what is judged there. Assumes nothing.
 use mathlib.Core.Path.{sym, ap, _∙_}
-use Rattle.tables.specs.Columns.{answer}
+use Rattle.tables.specs.words.Columns.{answer}
 use Rattle.tables.proofs.Loop.{answer-accepted, behind-end, behind-no-line, behind-line}
 use borrow.Author.Needs.{needs}
 use Rattle.tables.proofs.closed.Statement.{statement}

@@ -1,8 +1,8 @@
 -- `weighing::weigh_at` meets its contract, by what stands at the reference: nothing yet, a term that no step
 -- has touched, an end, or an entered split, whose digit names its end, no side, one side, or both. The levels
 -- left fall at each call. Assumes nothing.
-use Rattle.weighing.proofs.Laws.{one-more}
-use Rattle.weighing.proofs.LookLaws.{side-few}
+use Rattle.control.proofs.Sums.{one-more}
+use Rattle.looking.proofs.LookLaws.{side-few}
 use Rattle.weighing.proofs.WeighLaws.{Standing, Opened, Crossed, at-spent, at-fresh, at-rest}
 use Rattle.weighing.proofs.WeighLaws.{at-an-end, at-the-end, at-astray, at-one, at-both}
 use Prim.Native.Nat.{ℕ, _-_, _<_}
@@ -15,18 +15,18 @@ use Rattle.control.proofs.word.Reads as word-reads
 use Rattle.plans.proofs.around_of.Reads as around-of-reads
 use Rattle.plans.proofs.kind_of.Reads as kind-of-reads
 use Rattle.plans.proofs.second_of.Reads as second-of-reads
-use Rattle.weighing.proofs.looking.digit_at.Reads as digit-at-reads
-use Rattle.weighing.proofs.looking.inside_of.Reads as inside-of-reads
-use Rattle.weighing.proofs.looking.is_side.Reads as is-side-reads
-use Rattle.weighing.proofs.looking.is_within.Reads as is-within-reads
-use Rattle.weighing.proofs.looking.set_of.Reads as set-of-reads
-use Rattle.weighing.proofs.looking.taken.Reads as taken-reads
-use Rattle.weighing.proofs.looking.weigh_end.Reads as weigh-end-reads
-use Rattle.weighing.proofs.rules.both.Reads as both-reads
-use Rattle.weighing.proofs.rules.end_of.Reads as end-of-reads
-use Rattle.weighing.proofs.rules.entering.Reads as entering-reads
-use Rattle.weighing.proofs.rules.one.Reads as one-reads
-use Rattle.weighing.proofs.sums.sum.Reads as sum-reads
+use Rattle.looking.proofs.digit_at.Reads as digit-at-reads
+use Rattle.looking.proofs.inside_of.Reads as inside-of-reads
+use Rattle.looking.proofs.is_side.Reads as is-side-reads
+use Rattle.looking.proofs.is_within.Reads as is-within-reads
+use Rattle.looking.proofs.set_of.Reads as set-of-reads
+use Rattle.looking.proofs.taken.Reads as taken-reads
+use Rattle.weighing.proofs.weigh_end.Reads as weigh-end-reads
+use Rattle.weights.proofs.both.Reads as both-reads
+use Rattle.weights.proofs.end_of.Reads as end-of-reads
+use Rattle.weights.proofs.entering.Reads as entering-reads
+use Rattle.weights.proofs.one.Reads as one-reads
+use Rattle.control.proofs.sum.Reads as sum-reads
 use Rattle.weighing.proofs.weigh_term.Reads as weigh-term-reads
 use Rattle.weighing.proofs.+weigh_at.{statement}
 use Rattle.weighing.proofs.+weigh_at.Tie.{close}

@@ -1,8 +1,8 @@
 -- `weighing::weigh_term` meets its contract, by what a term weighs at each test: out of levels, a sequence,
 -- a leaf, a digit that names no side, one side, or both. The levels left fall at each call. Assumes nothing.
-use Rattle.weighing.proofs.Laws.{one-more}
-use Rattle.weighing.proofs.WeighLaws.{Looked, Sided, term-spent, term-sequence, term-leaf}
-use Rattle.weighing.proofs.WeighLaws.{term-astray, term-one, term-both}
+use Rattle.control.proofs.Sums.{one-more}
+use Rattle.weighing.proofs.WeighLaws.{Looked, Sided, term-spent, term-sequence, term-leaf, term-astray}
+use Rattle.weighing.proofs.WeighLaws.{term-one, term-both}
 use Prim.Native.Nat.{ℕ, _-_, _<_}
 use borrow.Fn.Kinds.{In}
 use borrow.Fn.PlainCycle.{Measures, is, falls, and}
@@ -13,18 +13,18 @@ use Rattle.plans.proofs.around_of.Reads as around-of-reads
 use Rattle.plans.proofs.kind_of.Reads as kind-of-reads
 use Rattle.plans.proofs.operand_of.Reads as operand-of-reads
 use Rattle.plans.proofs.second_of.Reads as second-of-reads
-use Rattle.weighing.proofs.looking.digit_at.Reads as digit-at-reads
-use Rattle.weighing.proofs.looking.is_side.Reads as is-side-reads
-use Rattle.weighing.proofs.looking.is_split.Reads as is-split-reads
-use Rattle.weighing.proofs.looking.is_within.Reads as is-within-reads
-use Rattle.weighing.proofs.looking.set_of.Reads as set-of-reads
-use Rattle.weighing.proofs.looking.taken.Reads as taken-reads
-use Rattle.weighing.proofs.rules.both.Reads as both-reads
-use Rattle.weighing.proofs.rules.by_leaf.Reads as by-leaf-reads
-use Rattle.weighing.proofs.rules.end_of.Reads as end-of-reads
-use Rattle.weighing.proofs.rules.entering.Reads as entering-reads
-use Rattle.weighing.proofs.rules.one.Reads as one-reads
-use Rattle.weighing.proofs.sums.sum.Reads as sum-reads
+use Rattle.looking.proofs.digit_at.Reads as digit-at-reads
+use Rattle.looking.proofs.is_side.Reads as is-side-reads
+use Rattle.looking.proofs.is_split.Reads as is-split-reads
+use Rattle.looking.proofs.is_within.Reads as is-within-reads
+use Rattle.looking.proofs.set_of.Reads as set-of-reads
+use Rattle.looking.proofs.taken.Reads as taken-reads
+use Rattle.weights.proofs.both.Reads as both-reads
+use Rattle.weights.proofs.by_leaf.Reads as by-leaf-reads
+use Rattle.weights.proofs.end_of.Reads as end-of-reads
+use Rattle.weights.proofs.entering.Reads as entering-reads
+use Rattle.weights.proofs.one.Reads as one-reads
+use Rattle.control.proofs.sum.Reads as sum-reads
 use Rattle.weighing.proofs.+weigh_term.{statement}
 use Rattle.weighing.proofs.+weigh_term.Tie.{close}
 use borrow.Author.Needs.{needs}

@@ -2,7 +2,7 @@
 -- for it. Assumes nothing.
 use mathlib.Core.Path.{sym, ap}
 use borrow.Author.Needs.{needs}
-use Rattle.writing.specs.Told.{refusal}
+use Rattle.writing.specs.words.Slice.{refusal}
 use Rattle.writing.proofs.refusal_of.Statement.{statement}
 use Rattle.writing.proofs.refusal_of.Tie as tie
 

@@ -2,7 +2,7 @@
 -- the text. Assumes nothing.
 use native.Mathlib.Omega.{arith}
 use borrow.Author.Needs.{needs}
-use Rattle.places.specs.Code.{columns}
+use Rattle.columns.specs.words.Columns.{columns}
 use Rattle.writing.proofs.Whole.{size-told, text-put, fits, falls-short}
 use Rattle.writing.proofs.write.Statement.{statement}
 use Rattle.writing.proofs.write.Tie as tie

@@ -3,7 +3,7 @@
 -- each call. Assumes nothing.
 use Prim.Native.Nat.{ℕ, suc, _-_, _+_, _<_}
 use mathlib.Core.Path.{_≡_, _∙_, sym, ap}
-use Rattle.frames.specs.Kind.{subterms}
+use Rattle.kinds.specs.Kind.{subterms}
 use Rattle.places.proofs.Ways.{inside, way-done, way-short, way-leaf, way-astray, way-down}
 use borrow.Fn.Kinds.{In}
 use borrow.Fn.PlainCycle.{Measures, is, falls, and}
@@ -12,7 +12,7 @@ use Rattle.places.proofs.descent.descend.Kinds as descend-kinds
 use Rattle.places.proofs.descent.+descend.Lts-descend as descend-lts
 use Rattle.places.proofs.descent.byte_of.Reads as byte-of-reads
 use Rattle.places.proofs.descent.step_to.Reads as step-to-reads
-use Rattle.frames.proofs.subterms.Reads as subterms-reads
+use Rattle.kinds.proofs.subterms.Reads as subterms-reads
 use Rattle.places.proofs.descent.+descend.{statement}
 use Rattle.places.proofs.descent.+descend.Tie.{close}
 use borrow.Author.Needs.{needs}

@@ -1,5 +1,5 @@
 -- `places::descent::byte_of` meets its contract, inside the column and past its end. Assumes nothing.
-use Rattle.places.proofs.Ways.{look-in, look-out}
+use Rattle.columns.proofs.Laws.{look-in, look-out}
 use borrow.Author.Needs.{needs}
 use Rattle.places.proofs.descent.byte_of.Statement.{statement}
 use Rattle.places.proofs.descent.byte_of.Tie as tie

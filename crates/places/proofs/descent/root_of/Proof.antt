@@ -1,6 +1,6 @@
 -- `places::descent::root_of` meets its contract, inside the column and past its end. Assumes nothing.
 use mathlib.Core.Path.{_∙_}
-use Rattle.places.proofs.Ways.{look-in, look-out}
+use Rattle.columns.proofs.Laws.{look-in, look-out}
 use borrow.Author.Needs.{needs}
 use Rattle.places.proofs.descent.root_of.Statement.{statement}
 use Rattle.places.proofs.descent.root_of.Tie as tie

@@ -3,7 +3,7 @@
 use mathlib.Core.Path.{_≡_, _∙_}
 use Prim.Native.Nat.{_≤_, _-_}
 use native.Mathlib.Omega.{arith}
-use Rattle.plans.specs.Laid.{turns}
+use Rattle.plans.specs.code.Laid.{turns}
 use Rattle.plans.proofs.Laid.{turn-more, turns-all}
 use borrow.Author.Needs.{needs}
 use Rattle.plans.proofs.laying.lay_out.Statement.{statement}

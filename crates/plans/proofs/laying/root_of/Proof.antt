@@ -1,5 +1,5 @@
 -- `plans::laying::root_of` meets its contract, in range and out of it. Assumes nothing.
-use Rattle.places.proofs.Ways.{look-in, look-out}
+use Rattle.columns.proofs.Laws.{look-in, look-out}
 use borrow.Author.Needs.{needs}
 use Rattle.plans.proofs.laying.root_of.Statement.{statement}
 use Rattle.plans.proofs.laying.root_of.Tie as tie

@@ -1,0 +1,2 @@
+-- Laws of columns.
+pub mod Laws

@@ -1,0 +1,2 @@
+-- Definitions of columns.
+pub mod words

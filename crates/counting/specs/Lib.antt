@@ -1,0 +1,2 @@
+-- Definitions of counting.
+pub mod code

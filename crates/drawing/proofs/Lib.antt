@@ -1,0 +1,2 @@
+-- Laws of drawing.
+pub mod Laws

@@ -1,0 +1,2 @@
+-- Definitions of drawing.
+pub mod code

@@ -1,0 +1,4 @@
+-- Laws of filling.
+pub mod Rooms
+pub mod Taken
+pub mod Walked

@@ -1,0 +1,22 @@
+-- `filling::after_of` meets its contract, inside the column and past its end. Assumes nothing.
+use mathlib.Core.Path.{sym}
+use native.Mathlib.Omega.{arith}
+use lib.ListN.{List·getD-eq-default}
+use borrow.Author.Needs.{needs}
+use Rattle.filling.proofs.after_of.Statement.{statement}
+use Rattle.filling.proofs.after_of.Tie as tie
+
+mul-result : tie.Need-mul-result
+mul-result c = search needs
+
+element-copy-out-result : tie.Need-element-copy-out-result
+element-copy-out-result c = search needs
+
+returns : tie.Need-returns
+returns c = search needs
+
+returns-2 : tie.Need-returns-2
+returns-2 c = sym (List·getD-eq-default (c .before .args .after .now) 0 (omega arith))
+
+pub after-of-spec : {M : Type 1} → statement M
+after-of-spec = tie.close (tie.spec mul-result element-copy-out-result returns returns-2)

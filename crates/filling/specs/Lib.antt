@@ -1,0 +1,3 @@
+-- Definitions of filling.
+pub mod words
+pub mod code

@@ -1,0 +1,3 @@
+-- Laws of finding.
+pub mod Followed
+pub mod FoundLaws

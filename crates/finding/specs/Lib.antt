@@ -1,0 +1,3 @@
+-- Definitions of finding.
+pub mod words
+pub mod code

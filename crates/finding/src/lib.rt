@@ -1,0 +1,150 @@
+// The mark of a node by its line: its number and its place have to be a node's, and the path is followed digit by digit.
+use columns::after_of;
+use columns::kind_of;
+use columns::wide;
+use kinds::subterms;
+use numbers::byte;
+use numbers::byte_at;
+use numbers::number_at;
+ghost use mathlib.Core.Path.{_≡_};
+ghost use mathlib.Core.Bool.{_&&_};
+ghost use mathlib.Core.List.{List};
+ghost use mathlib.Core.Option.{some};
+ghost use Prim.Native.Nat.{ℕ, _+_, _≤_, _<_};
+ghost use lib.ListN.{length, drop, getD};
+ghost use lib.Dec.{eqb};
+ghost use Rattle.lines.specs.Line.{choose, bytes};
+ghost use Rattle.columns.specs.words.Columns.{look};
+ghost use Rattle.places.specs.Place.{left-path};
+ghost use Rattle.graphs.specs.Shape.{same};
+ghost use Rattle.finding.specs.code.Found as of;
+ghost use Rattle.finding.specs.words.Node.{label-at};
+
+const TERMS: usize = 1024;
+
+const DEFINITIONS: usize = 64;
+
+// Where a node's line has its number, its definition and its path.
+const NUMBER: usize = 1;
+
+const DEFINITION: usize = 3;
+
+const PATH: usize = 5;
+
+// The mark of the left-hand side of definition 00.
+const START: u16 = 1;
+
+// The mark of node k by its line; 0 where the line has another number, or a place that is not a node's.
+pub fn mark_of(
+    k: usize,
+    chars: &[u8],
+    kinds: &[u8; 1024],
+    after: &[u16; 1024],
+    roots: &[u16; 64],
+) -> u16
+    ensures { λ r. ⌜ ((bs : List ℕ) → bytes (now (chars .entry)) ≡ some bs → 5 ≤ length bs
+        → r ≡ of.mark-of (now (kinds .entry)) (now (after .entry)) (now (roots .entry)) k (label-at bs)) ⌝ }
+{
+    if number_at(chars, NUMBER) != k {
+        return 0;
+    }
+    if k == 0 {
+        return start_mark(chars);
+    }
+    find(
+        root_of(byte_at(chars, DEFINITION), roots),
+        chars,
+        kinds,
+        after,
+    )
+}
+
+// The mark of node 0: path 0 of definition 00.
+fn start_mark(chars: &[u8]) -> u16
+    ensures { λ r. ⌜ ((bs : List ℕ) → bytes (now (chars .entry)) ≡ some bs
+        → r ≡ choose (eqb (getD bs 3 0) 0 && same (drop 5 bs) left-path) 1 0) ⌝ }
+{
+    if chars.len() != 12 {
+        return 0;
+    }
+    if byte(chars, DEFINITION) != 0 {
+        return 0;
+    }
+    if byte(chars, PATH) != 0 {
+        return 0;
+    }
+    START
+}
+
+// The mark of the literal at a line's path from a term on; 0 where there is none.
+fn find(root: usize, chars: &[u8], kinds: &[u8; 1024], after: &[u16; 1024]) -> u16
+    ensures { λ r. ⌜ ((bs : List ℕ) → bytes (now (chars .entry)) ≡ some bs
+        → r ≡ of.find (now (kinds .entry)) (now (after .entry)) root (drop 5 bs)) ⌝ }
+{
+    let count = chars.len() / 2;
+    let mut term = root;
+    let mut i: usize = PATH;
+    while i < count {
+        let digit = byte(chars, i);
+        let below = subterms(kind_of(term, kinds));
+        if below == 0 {
+            return 0;
+        }
+        if digit == 1 {
+            if below != 2 {
+                return event_mark(term, i + 1 == count);
+            }
+            term += 1;
+        } else {
+            if digit != 2 {
+                return 0;
+            }
+            term = last_subterm(term, below, after);
+        }
+        i += 1;
+    }
+    own_mark(term)
+}
+
+// The mark of a prefix's event, where the path ends there.
+fn event_mark(term: usize, ends: bool) -> u16
+    requires { ⌜ term < 1024 ⌝ }
+    ensures { λ r. ⌜ r ≡ choose ends (of.event-mark term) 0 ⌝ }
+{
+    if !ends {
+        return 0;
+    }
+    ((2 * term + 3) % 65536) as u16
+}
+
+// The mark of a term's own literal; 0 where there is no such term.
+fn own_mark(term: usize) -> u16
+    ensures { λ r. ⌜ r ≡ of.own-mark term ⌝ }
+{
+    if TERMS <= term {
+        return 0;
+    }
+    ((2 * term + 2) % 65536) as u16
+}
+
+// The last subterm of a term.
+fn last_subterm(term: usize, below: u8, after: &[u16; 1024]) -> usize
+    requires { ⌜ term < 1024 ⌝ }
+    ensures { λ r. ⌜ r ≡ choose (eqb below 2) (look 1024 (now (after .entry)) (term + 1)) (term + 1) ⌝ }
+{
+    if below == 2 {
+        after_of(term + 1, after)
+    } else {
+        term + 1
+    }
+}
+
+fn root_of(definition: usize, roots: &[u16; 64]) -> usize
+    ensures { λ r. ⌜ r ≡ look 64 (now (roots .entry)) definition ⌝ }
+{
+    if definition < DEFINITIONS {
+        wide(roots[definition])
+    } else {
+        0
+    }
+}

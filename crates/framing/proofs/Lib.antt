@@ -1,0 +1,2 @@
+-- Laws of framing.
+pub mod Spelt

@@ -1,0 +1,3 @@
+-- Definitions of framing.
+pub mod words
+pub mod code

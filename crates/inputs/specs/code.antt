@@ -1,0 +1,2 @@
+-- Mirrors of code: what functions compute whatever they are handed.
+pub mod Lengths

@@ -1,0 +1,2 @@
+-- Laws of kinds.
+pub mod KindLaws

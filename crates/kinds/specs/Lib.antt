@@ -1,0 +1,2 @@
+-- Definitions of kinds.
+pub mod Kind

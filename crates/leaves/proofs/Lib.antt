@@ -1,0 +1,2 @@
+-- Laws of leaves.
+pub mod Laws

@@ -1,0 +1,2 @@
+-- Definitions of leaves.
+pub mod code

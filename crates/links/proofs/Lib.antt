@@ -1,0 +1,4 @@
+-- Laws of links.
+pub mod LinkLaws
+pub mod Listed
+pub mod WordLaws

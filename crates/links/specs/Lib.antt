@@ -1,0 +1,3 @@
+-- Definitions of links.
+pub mod words
+pub mod code

@@ -1,0 +1,2 @@
+-- Laws of looking.
+pub mod LookLaws

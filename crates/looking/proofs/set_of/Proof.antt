@@ -1,0 +1,20 @@
+-- `looking::set_of` meets its contract, in range and out of it. Assumes nothing.
+use Rattle.looking.proofs.LookLaws.{set-in, set-out}
+use borrow.Author.Needs.{needs}
+use Rattle.looking.proofs.set_of.Statement.{statement}
+use Rattle.looking.proofs.set_of.Tie as tie
+
+mul-result : tie.Need-mul-result
+mul-result c = search needs
+
+element-copy-out-result : tie.Need-element-copy-out-result
+element-copy-out-result c = search needs
+
+returns : tie.Need-returns
+returns c = set-in _ _ (c .before .if1 .taken)
+
+returns-2 : tie.Need-returns-2
+returns-2 c = set-out _ _ (c .if1 .left)
+
+pub set-of-spec : {M : Type 1} → statement M
+set-of-spec = tie.close (tie.spec mul-result element-copy-out-result returns returns-2)

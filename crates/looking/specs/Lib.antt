@@ -1,0 +1,2 @@
+-- Definitions of looking.
+pub mod code

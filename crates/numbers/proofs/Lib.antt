@@ -1,0 +1,3 @@
+-- Laws of numbers.
+pub mod Digits
+pub mod Laws

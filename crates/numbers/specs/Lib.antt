@@ -1,0 +1,2 @@
+-- Definitions of numbers.
+pub mod code

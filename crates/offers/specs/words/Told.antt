@@ -1,0 +1,50 @@
+-- What the answers are of a control that the words of a run hold: its offers and its status, by document 01's
+-- account in report's `Offers`.
+use Prim.Native.Nat.{ℕ, _≤_, _<_}
+use mathlib.Core.Path.{_≡_}
+use mathlib.Core.Bool.{true}
+use mathlib.Core.List.{List, []}
+use lib.ListN.{length}
+use Rattle.sets.specs.EventSet.{member}
+use Rattle.frames.specs.TableFrame.{path-room, event-room}
+use Rattle.rules.specs.Process.{Process, main, cells}
+use Rattle.rules.specs.Run.{cell-room}
+use Rattle.rules.specs.Offers.{offers-τ, offers-✓, offers-event, live, ended, stuck}
+use Rattle.rules.specs.Offers as Report
+use Rattle.plans.specs.words.Plan.{Layout}
+use Rattle.control.specs.words.Control.{Holds}
+use Rattle.offers.specs.declared.Offered.{Offered}
+use Rattle.offers.specs.declared.Status.{Status}
+use Rattle.offers.specs.declared.Status.the-variants.{Live, Ended, Stuck}
+use Rattle.offers.specs.code.Offering.{Offer}
+
+-- what a control offers
+abbrev pub offer-of : Process → Offer
+offer-of P = record { tau = offers-τ P; tick = offers-✓ P; event = λ k. offers-event k P }
+
+-- document 01, 'Room': 64 digits in the path of any literal
+abbrev pub Low : Layout → Type 0
+Low l = (i : ℕ) → length (l .place i .path) ≤ path-room
+
+-- the control P of a run at reference n: at the start a call of definition 00, and then what stands there, of
+-- no more cells than there is room for
+pub data Controls (l : Layout) (p x w : List ℕ) (n : ℕ) (P : Process) : Type 0 where
+  starts : n ≡ 0 → P ≡ main → Controls l p x w n P
+  stands : Holds l p x w n 0 P [] → cells P ≤ cell-room → Controls l p x w n P
+
+-- an answer that tells what a control offers
+pub record Tells (r : Offered) (P : Process) : Type 0 where
+  pub tau-is : r .tau ≡ offers-τ P
+  pub tick-is : r .tick ≡ offers-✓ P
+  pub events-are : (k : ℕ) → member k (r .events) ≡ offers-event k P
+
+-- a count of events that a table may have, which covers what a control offers
+pub record Covers (e : ℕ) (P : Process) : Type 0 where
+  pub in-room : e ≤ event-room
+  pub all-below : (k : ℕ) → offers-event k P ≡ true → k < e
+
+-- the paper's status for each of the answer's cases: 00 live, 01 ended, 02 stuck
+unfoldable pub status-of : Status → Report.Status
+status-of Live = live
+status-of Ended = ended
+status-of Stuck = stuck

@@ -1,0 +1,2 @@
+-- Laws of pairing.
+pub mod Renumbering

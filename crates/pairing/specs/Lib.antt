@@ -1,0 +1,2 @@
+-- Definitions of pairing.
+pub mod code

@@ -1,0 +1,3 @@
+-- Layouts of words and invariants.
+pub mod Layout
+pub mod Plan

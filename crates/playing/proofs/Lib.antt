@@ -1,0 +1,2 @@
+-- Laws of playing.
+pub mod Laws

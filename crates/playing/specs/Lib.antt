@@ -1,0 +1,2 @@
+-- Definitions of playing.
+pub mod code

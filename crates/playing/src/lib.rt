@@ -1,0 +1,67 @@
+// A script's line played: its digits are read, and the run takes its step. It relies on the script's lines and on the step.
+use control::Event;
+use runs::Answer;
+use runs::step;
+use scripts::Step;
+use scripts::next_step;
+ghost use mathlib.Core.Path.{_≡_};
+ghost use lib.ListN.{drop};
+ghost use lib.Seq as seq;
+ghost use Rattle.scripts.specs.Script.{left};
+ghost use Rattle.lines.specs.Line.{lines};
+ghost use Rattle.playing.specs.code.Playing as spec;
+
+// What a line of a script comes to: a step, with the next line from `next` on; the number of the refusal; or nothing,
+// at the end of the script.
+pub enum Played {
+    Stepped { event: Event, next: usize },
+    Refused(u8),
+    End,
+}
+
+// Plays the line of a script that begins at `at`: its digits go to the front of `digits`, and the run takes its step.
+pub fn play(
+    text: &[u8],
+    at: usize,
+    digits: &mut [u8; 1024],
+    plan: &[u16; 4096],
+    sets: &[u64; 1024],
+    nodes: &mut [u16; 65544],
+    track: &mut [u16; 28672],
+    counters: &mut [u16; 8],
+) -> Played
+    ensures { λ r. ⌜ r ≡ spec.played (now (plan .entry)) (now (sets .entry)) (now (nodes .entry))
+        (now (track .entry)) (now (counters .entry)) at (lines (drop at (now (text .entry)))) (now (digits .entry)) .played ⌝ }
+    ensures { λ _. ⌜ now (nodes .exit) ≡ spec.played (now (plan .entry)) (now (sets .entry)) (now (nodes .entry))
+        (now (track .entry)) (now (counters .entry)) at (lines (drop at (now (text .entry)))) (now (digits .entry)) .nodes ⌝ }
+    ensures { λ _. ⌜ now (track .exit) ≡ spec.played (now (plan .entry)) (now (sets .entry)) (now (nodes .entry))
+        (now (track .entry)) (now (counters .entry)) at (lines (drop at (now (text .entry)))) (now (digits .entry)) .track ⌝ }
+    ensures { λ _. ⌜ now (counters .exit) ≡ spec.played (now (plan .entry)) (now (sets .entry)) (now (nodes .entry))
+        (now (track .entry)) (now (counters .entry)) at (lines (drop at (now (text .entry)))) (now (digits .entry)) .counters ⌝ }
+    ensures { λ _. ⌜ now (digits .exit)
+        ≡ seq.sets (now (digits .entry)) 0 (left (lines (drop at (now (text .entry))))) ⌝ }
+{
+    let line = next_step(text, at, digits);
+    let Step::Address { count, next } = line else {
+        return no_step(line);
+    };
+    let answer = step(count, digits, plan, sets, nodes, track, counters);
+    match answer {
+        Answer::Refused(number) => Played::Refused(number),
+        Answer::Accepted(shown) => {
+            let event = shown.event;
+            Played::Stepped { event, next }
+        }
+    }
+}
+
+// What a line that asks for no step comes to.
+fn no_step(line: Step) -> Played
+    ensures { λ r. ⌜ r ≡ spec.without-step line ⌝ }
+{
+    match line {
+        Step::Address { count: _, next: _ } => Played::End,
+        Step::Refused(number) => Played::Refused(number),
+        Step::End => Played::End,
+    }
+}

@@ -1,0 +1,4 @@
+-- Laws of refusals.
+pub mod Cursor
+pub mod Fine
+pub mod Refusals

@@ -1,0 +1,2 @@
+-- Definitions of refusals.
+pub mod code

@@ -1,0 +1,225 @@
+// The lines of a table judged, each by what the lines before it have said: its frame, or the lowest number of refusal that it
+// meets. It relies on the line finder and on the frames.
+use frames::Frame;
+use frames::Seen;
+use frames::read_frame;
+use lines::Line;
+use lines::characters;
+use lines::next_line;
+use lines::refusal_of;
+ghost use mathlib.Core.Path.{_≡_};
+ghost use Rattle.frames.specs.TableFrame as table;
+ghost use Rattle.refusals.specs.code.Said.{stop, failure, said, opened};
+ghost use lib.ListN.{drop};
+ghost use lib.Dec.{leb, ltb, eqb};
+ghost use mathlib.Core.Bool.{not};
+ghost use Rattle.lines.specs.Line.{lines};
+ghost use Rattle.frames.specs.declared.Frame.the-variants.{Opening, Definition, Term, Closing};
+
+// What line 1 opens: a table of so many definitions and events, with the next line from `next` on, or the
+// number of its refusal.
+pub enum Opened {
+    Table {
+        definitions: usize,
+        events: usize,
+        next: usize,
+    },
+    Fails(u8),
+}
+
+// What a line says: its frame, with the next line from `next` on, or the number of its refusal.
+pub enum Said {
+    Goes { frame: Frame, next: usize },
+    Stops(u8),
+}
+
+const CALL: u8 = 1;
+
+const PREFIX: u8 = 2;
+
+const PARALLEL: u8 = 6;
+
+const TERM_ROOM: usize = 1024;
+
+const PATH_ROOM: usize = 64;
+
+// Line 1 of a table.
+pub fn first_line(text: &[u8]) -> Opened
+    ensures { λ r. ⌜ r ≡ opened (lines (now (text .entry))) ⌝ }
+{
+    let line = next_line(text, 0);
+    let Line::Found { end, next } = line else {
+        return Opened::Fails(refusal_of(line));
+    };
+    let frame = read_frame(characters(text, 0, end));
+    let Frame::Opening {
+        edition,
+        definitions,
+        events,
+    } = frame
+    else {
+        return Opened::Fails(2);
+    };
+    if opening_outside(edition, definitions, events) {
+        return Opened::Fails(3);
+    }
+    Opened::Table {
+        definitions: definitions as usize,
+        events: events as usize,
+        next,
+    }
+}
+
+// An edition other than 01, or a count out of its range.
+fn opening_outside(edition: u8, definitions: u8, events: u8) -> bool
+    ensures { λ r. ⌜ r ≡ not (eqb (table.first-refusal (Opening edition definitions events)) 0) ⌝ }
+{
+    if edition != 1 {
+        return true;
+    }
+    if definitions < 1 {
+        return true;
+    }
+    if 64 < definitions {
+        return true;
+    }
+    64 < events
+}
+
+// The line at a cursor behind line 1.
+pub fn table_line(text: &[u8], at: usize, s: Seen) -> Said
+    ensures { λ r. ⌜ r ≡ said (λ f. table.refusal f s) at (lines (drop at (now (text .entry)))) ⌝ }
+{
+    let line = next_line(text, at);
+    let Line::Found { end, next } = line else {
+        return Said::Stops(refusal_of(line));
+    };
+    let frame = read_frame(characters(text, at, end));
+    let number = refusal(frame, s);
+    if number != 0 {
+        return Said::Stops(number);
+    }
+    Said::Goes { frame, next }
+}
+
+// The number that a frame behind line 1 meets, the lowest where there are several, 0 where it meets none.
+fn refusal(frame: Frame, s: Seen) -> u8
+    ensures { λ r. ⌜ r ≡ table.refusal frame s ⌝ }
+{
+    match frame {
+        Frame::Term { kind, payload } => term_refusal(kind, payload, s),
+        Frame::Definition(n) => definition_refusal(n, s),
+        Frame::Closing(count) => closing_refusal(count, s),
+        Frame::Opening {
+            edition: _,
+            definitions: _,
+            events: _,
+        } => 2,
+        Frame::Wrong => 2,
+    }
+}
+
+fn definition_refusal(n: u8, s: Seen) -> u8
+    ensures { λ r. ⌜ r ≡ table.refusal (Definition n) s ⌝ }
+{
+    let number = n as usize;
+    if number != s.begun {
+        return 3;
+    }
+    if s.definitions <= number {
+        return 3;
+    }
+    if s.due != 0 {
+        return 4;
+    }
+    0
+}
+
+fn closing_refusal(count: u64, s: Seen) -> u8
+    ensures { λ r. ⌜ r ≡ table.refusal (Closing count) s ⌝ }
+{
+    if count != s.terms as u64 {
+        return 3;
+    }
+    if 0 < s.due {
+        return 4;
+    }
+    if s.begun < s.definitions {
+        return 4;
+    }
+    0
+}
+
+fn term_refusal(kind: u8, payload: u64, s: Seen) -> u8
+    ensures { λ r. ⌜ r ≡ table.refusal (Term kind payload) s ⌝ }
+{
+    if s.begun == 0 {
+        return 2;
+    }
+    if over_limit(kind, payload, s) {
+        return 3;
+    }
+    if s.due == 0 {
+        return 4;
+    }
+    if TERM_ROOM <= s.terms {
+        return 5;
+    }
+    if too_deep(kind, s) {
+        return 5;
+    }
+    0
+}
+
+// A payload that names no definition, no event, or a set with an event that the table does not have.
+fn over_limit(kind: u8, payload: u64, s: Seen) -> bool
+    ensures { λ r. ⌜ r ≡ leb (table.limit s kind) payload ⌝ }
+{
+    if kind == CALL {
+        return s.definitions as u64 <= payload;
+    }
+    if kind == PREFIX {
+        return s.events as u64 <= payload;
+    }
+    if kind == PARALLEL {
+        if 64 <= s.events {
+            return false;
+        }
+        return (1u64 << s.events) <= payload;
+    }
+    1 <= payload
+}
+
+// A term with a literal below the longest path: a prefix's event stands one digit further down.
+fn too_deep(kind: u8, s: Seen) -> bool
+    ensures { λ r. ⌜ r ≡ ltb table.path-room (table.longest s kind) ⌝ }
+{
+    if kind == PREFIX {
+        return PATH_ROOM <= s.depth;
+    }
+    PATH_ROOM < s.depth
+}
+
+// The number that a line stops with.
+pub fn stop_of(said: Said) -> u8
+    ensures { λ r. ⌜ r ≡ stop said ⌝ }
+{
+    match said {
+        Said::Goes { frame: _, next: _ } => 0,
+        Said::Stops(number) => number,
+    }
+}
+
+// The number that line 1 fails with.
+pub fn failure_of(first: Opened) -> u8
+    ensures { λ r. ⌜ r ≡ failure first ⌝ }
+{
+    match first {
+        Opened::Table {
+            definitions: _,
+            events: _,
+            next: _,
+        } => 0,
+        Opened::Fails(number) => number,
+    }
+}

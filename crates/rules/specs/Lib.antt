@@ -1,0 +1,11 @@
+-- The report's rules: `Process` is what is stepped, `Track` what a step adds to a track, `Tracking` Fig. 7,
+-- `Plain` Fig. 3, `Step` the step of an address worked out, `Run` a run with its rooms, and `Offers` the
+-- events that a control offers, and its status.
+pub mod Process
+pub mod Track
+pub mod Tracking
+pub mod Plain
+pub mod Step
+pub mod Run
+pub mod Offers
+pub mod Addressed

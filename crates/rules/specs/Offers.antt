@@ -1,0 +1,79 @@
+-- Offers and status. Document 01, 'Steps and addresses': the events that a control has derivations for, by
+-- following the term downward; ended at Ω, stuck when no address has a derivation and the control is not Ω,
+-- else live.
+use Prim.Native.Nat.{ℕ, zero, suc}
+use mathlib.Core.Bool.{Bool, true, false, _&&_, _||_}
+use lib.Dec.{eqb}
+use Rattle.lines.specs.Line.{choose}
+use Rattle.terms.specs.Term.{Leaf, call, SKIP, STOP}
+use Rattle.rules.specs.Process.{Event, τ, ✓, visible, choice, together, Process, leaf, prefix, internal}
+use Rattle.rules.specs.Process.{split, sequence, Ω, ⊥′}
+use Rattle.sets.specs.EventSet.{member}
+use Rattle.rules.specs.Step.{at-Ω}
+
+-- what a leaf offers; STOP's own step is a τ
+unfoldable pub leaf-offers : Leaf → Event → Bool
+leaf-offers (call n) τ = true
+leaf-offers (call n) ✓ = false
+leaf-offers (call n) (visible k) = false
+leaf-offers SKIP τ = false
+leaf-offers SKIP ✓ = true
+leaf-offers SKIP (visible k) = false
+leaf-offers STOP τ = true
+leaf-offers STOP ✓ = false
+leaf-offers STOP (visible k) = false
+
+-- ✓ is offered
+unfoldable pub offers-✓ : Process → Bool
+offers-✓ (leaf w l) = leaf-offers l ✓
+offers-✓ (prefix w e P) = false
+offers-✓ (internal w P Q) = false
+offers-✓ (split w choice m n P Q) = offers-✓ P || offers-✓ Q
+offers-✓ (split w (together x) m n P Q) = at-Ω P && at-Ω Q
+offers-✓ (sequence w b P Q) = false
+offers-✓ Ω = false
+offers-✓ ⊥′ = false
+
+-- τ is offered: a sequence and a parallel show a side's ✓ as τ
+unfoldable pub offers-τ : Process → Bool
+offers-τ (leaf w l) = leaf-offers l τ
+offers-τ (prefix w e P) = false
+offers-τ (internal w P Q) = true
+offers-τ (split w choice m n P Q) = offers-τ P || offers-τ Q
+offers-τ (split w (together x) m n P Q) = (offers-τ P || offers-✓ P) || (offers-τ Q || offers-✓ Q)
+offers-τ (sequence w b P Q) = offers-τ P || offers-✓ P
+offers-τ Ω = false
+offers-τ ⊥′ = false
+
+-- event k is offered: for a parallel, of either side outside its set, and of both inside
+unfoldable pub offers-event : ℕ → Process → Bool
+offers-event k (leaf w l) = leaf-offers l (visible k)
+offers-event k (prefix w e P) = eqb k e
+offers-event k (internal w P Q) = false
+offers-event k (split w choice m n P Q) = offers-event k P || offers-event k Q
+offers-event k (split w (together x) m n P Q) =
+    choose (member k x) (offers-event k P && offers-event k Q) (offers-event k P || offers-event k Q)
+offers-event k (sequence w b P Q) = offers-event k P
+offers-event k Ω = false
+offers-event k ⊥′ = false
+
+unfoldable pub offers : Process → Event → Bool
+offers P τ = offers-τ P
+offers P ✓ = offers-✓ P
+offers P (visible k) = offers-event k P
+
+-- one of the first n events is offered
+unfoldable pub offers-some : ℕ → Process → Bool
+offers-some zero P = false
+offers-some (suc n) P = offers-event n P || offers-some n P
+
+pub data Status : Type 0 where
+  live : Status
+  ended : Status
+  stuck : Status
+
+-- the status of a control under a table of n events
+unfoldable pub status : ℕ → Process → Status
+status n P =
+    choose (at-Ω P) ended
+    (choose (offers-τ P || (offers-✓ P || offers-some n P)) live stuck)

@@ -1,0 +1,2 @@
+-- Layouts of words and invariants.
+pub mod Kept

@@ -1,0 +1,2 @@
+-- Laws of sides.
+pub mod Laws

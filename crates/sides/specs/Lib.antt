@@ -1,0 +1,2 @@
+-- Definitions of sides.
+pub mod code

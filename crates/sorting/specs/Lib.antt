@@ -1,0 +1,3 @@
+-- Definitions of sorting.
+pub mod words
+pub mod code

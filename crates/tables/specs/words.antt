@@ -1,0 +1,3 @@
+-- Layouts of words and invariants.
+pub mod Columns
+pub mod Filled

@@ -1,0 +1,42 @@
+-- Where a checked table goes: a column for each thing that is known of a term, its number in preorder over
+-- the whole table, and one for the definitions' roots. A refused table leaves the columns as they were.
+use Prim.Native.Nat.{ℕ, _-_}
+use mathlib.Core.List.{List, _++_, map}
+use lib.ListN.{length, replicate}
+use Rattle.frames.specs.TableFrame.{term-room, definition-room}
+use Rattle.tables.specs.Table.{Item, Sofar, Judged, accepted, refused}
+use Rattle.tables.specs.declared.Checked.{Checked}
+use Rattle.tables.specs.declared.Checked.the-variants.{Accepted, Refused}
+use Rattle.filling.specs.words.Preorder.{walked}
+
+-- some numbers in an array of n, zeros behind them
+unfoldable pub column : ℕ → List ℕ → List ℕ
+column n xs = xs ++ replicate (n - length xs) 0
+
+unfoldable pub kinds : Sofar → List ℕ
+kinds s = column term-room (map (λ (i : Item). i .kind) (s .terms))
+
+unfoldable pub payloads : Sofar → List ℕ
+payloads s = column term-room (map (λ (i : Item). i .payload) (s .terms))
+
+-- the definition that each term stands in
+unfoldable pub owners : Sofar → List ℕ
+owners s = column term-room (map (λ (i : Item). i .definition) (s .terms))
+
+-- the number of each definition's root
+unfoldable pub roots : Sofar → List ℕ
+roots s = column definition-room (s .roots)
+
+unfoldable pub afters : Sofar → List ℕ
+afters s = walked (length (s .terms)) (kinds s) (replicate term-room 0)
+
+-- what a column holds afterwards
+unfoldable pub left : (Sofar → List ℕ) → Judged → List ℕ → List ℕ
+left col (accepted s) old = col s
+left col (refused n l) old = old
+
+-- the answer: the table's counts, or the paper's number of the refusal and its line
+unfoldable pub answer : Judged → Checked
+answer (accepted s) =
+    Accepted (record { definitions = s .definitions; events = s .events; terms = length (s .terms) })
+answer (refused n l) = Refused n l

@@ -1,0 +1,2 @@
+-- Laws of telling.
+pub mod Laws

@@ -1,0 +1,3 @@
+-- Definitions of telling.
+pub mod ListingFrame
+pub mod code

@@ -1,0 +1,3 @@
+-- Mirrors of code: what functions compute whatever they are handed.
+pub mod Ending
+pub mod Weigh

@@ -1,0 +1,2 @@
+-- Definitions of weights.
+pub mod code
