@@ -1,21 +1,51 @@
 // The columns of a checked table: what each has at a number, 0 out of range.
+use frames::DEFINITION_ROOM;
+use frames::TERM_ROOM;
 ghost use mathlib.Core.Path.{_≡_};
 ghost use Rattle.columns.specs.words.Columns.{look};
 
-const TERMS: usize = 1024;
+// A column for each thing that is known of a term, by its number in preorder over the whole table: its kind, its payload, the
+// definition that it stands in, and the term behind it and its subterms; and one for the definitions' roots.
+pub type Kinds = [u8; TERM_ROOM];
+
+pub type Payloads = [u64; TERM_ROOM];
+
+pub type Owners = [u8; TERM_ROOM];
+
+pub type After = [u16; TERM_ROOM];
+
+pub type Roots = [u16; DEFINITION_ROOM];
 
 // The kind of a term.
-pub fn kind_of(n: usize, kinds: &[u8; 1024]) -> u8
+pub fn kind_of(n: usize, kinds: &Kinds) -> u8
     ensures { λ r. ⌜ r ≡ look 1024 (now (kinds .entry)) n ⌝ }
 {
-    if n < TERMS { kinds[n] } else { 0 }
+    if n < TERM_ROOM { kinds[n] } else { 0 }
 }
 
-// The number of the term behind a term.
-pub fn after_of(n: usize, after: &[u16; 1024]) -> usize
+// The definition that a term stands in.
+pub fn owner_of(n: usize, owners: &Owners) -> u8
+    ensures { λ r. ⌜ r ≡ look 1024 (now (owners .entry)) n ⌝ }
+{
+    if n < TERM_ROOM { owners[n] } else { 0 }
+}
+
+// The number of the term behind a term and its subterms.
+pub fn after_of(n: usize, after: &After) -> usize
     ensures { λ r. ⌜ r ≡ look 1024 (now (after .entry)) n ⌝ }
 {
-    if n < TERMS { wide(after[n]) } else { 0 }
+    if n < TERM_ROOM { wide(after[n]) } else { 0 }
+}
+
+// The number of a definition's root.
+pub fn root_of(definition: usize, roots: &Roots) -> usize
+    ensures { λ r. ⌜ r ≡ look 64 (now (roots .entry)) definition ⌝ }
+{
+    if definition < DEFINITION_ROOM {
+        wide(roots[definition])
+    } else {
+        0
+    }
 }
 
 pub fn wide(x: u16) -> usize

@@ -1,7 +1,17 @@
 // The counters of a run, kept beside its control, and the rooms.
+use columns::wide;
+use control::Counters;
 use control::sum;
 use drawing::Tally;
 use leaves::Taken;
+use lines::ARCS_OVER_ROOM;
+use lines::CELLS_OVER_ROOM;
+use lines::MEETINGS_OVER_ROOM;
+use lines::NODES_OVER_ROOM;
+use rules::ARC_ROOM;
+use rules::CELL_ROOM;
+use rules::MEETING_ROOM;
+use rules::NODE_ROOM;
 use weights::Weight;
 ghost use mathlib.Core.Path.{_≡_};
 ghost use Prim.Native.Nat.{_<_};
@@ -21,16 +31,7 @@ pub const ARCS: usize = 4;
 
 pub const MEETINGS: usize = 5;
 
-// The rooms.
-const CELL_ROOM: usize = 1024;
-
-const NODE_ROOM: usize = 4096;
-
-const ARC_ROOM: usize = 8192;
-
-const MEETING_ROOM: usize = 4096;
-
-pub fn counter(k: usize, counters: &[u16; 8]) -> usize
+pub fn counter(k: usize, counters: &Counters) -> usize
     requires { ⌜ k < 8 ⌝ }
     ensures { λ r. ⌜ r ≡ spec.counter k (now (counters .entry)) ⌝ }
 {
@@ -38,26 +39,26 @@ pub fn counter(k: usize, counters: &[u16; 8]) -> usize
 }
 
 // The lowest number of the rooms that a step would pass, 0 where it passes none.
-pub fn over_room(w: Weight, counters: &[u16; 8]) -> u8
+pub fn over_room(w: Weight, counters: &Counters) -> u8
     ensures { λ r. ⌜ r ≡ spec.over-room w (now (counters .entry)) ⌝ }
 {
     if CELL_ROOM < w.size {
-        return 8;
+        return CELLS_OVER_ROOM;
     }
     if NODE_ROOM < sum(counter(NODES, counters), w.nodes) {
-        return 9;
+        return NODES_OVER_ROOM;
     }
     if ARC_ROOM < sum(counter(ARCS, counters), w.arcs) {
-        return 10;
+        return ARCS_OVER_ROOM;
     }
     if MEETING_ROOM < sum(counter(MEETINGS, counters), w.meetings) {
-        return 11;
+        return MEETINGS_OVER_ROOM;
     }
     0
 }
 
 // How far a run has come, before a step.
-pub fn tally_of(counters: &[u16; 8]) -> Tally
+pub fn tally_of(counters: &Counters) -> Tally
     ensures { λ r. ⌜ r ≡ spec.tally-of (now (counters .entry)) ⌝ }
 {
     Tally {
@@ -70,7 +71,7 @@ pub fn tally_of(counters: &[u16; 8]) -> Tally
 }
 
 // The counters after a step.
-pub fn recount(taken: Taken, counters: &mut [u16; 8])
+pub fn recount(taken: Taken, counters: &mut Counters)
     ensures { λ _. ⌜ now (counters .exit) ≡ spec.recounted taken ⌝ }
 {
     let tally = taken.tally;
@@ -90,10 +91,4 @@ fn narrow(x: usize) -> u16
     ensures { λ r. ⌜ r ≡ spec.narrow x ⌝ }
 {
     (x % 65536) as u16
-}
-
-fn wide(x: u16) -> usize
-    ensures { λ r. ⌜ r ≡ x ⌝ }
-{
-    x as usize
 }

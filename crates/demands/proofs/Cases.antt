@@ -11,7 +11,8 @@ use lib.Dec.{eqb}
 use borrow.Author.Tests.{eqb-true, eqb-false}
 use Rattle.sets.specs.EventSet.{member}
 use Rattle.terms.specs.Term.{SKIP, STOP, parallel, Term, leaf, prefix, binary}
-use Rattle.rules.specs.Process.{Event, one, two, three, Address, joined, untouched, right-side, cells}
+use Rattle.rules.specs.declared.Event.{Event}
+use Rattle.rules.specs.Process.{one, two, three, Address, joined, untouched, right-side, cells}
 use Rattle.rules.specs.Track.{labelled, prefixed, first-eval, around, each-with, meet, jointly, carried}
 use Rattle.rules.specs.Track.{started, leads, parents, ended}
 use Rattle.rules.specs.Step.{one-side, by-side, same, both-sides, with-right, in-sequence, by-left, at-Ω}

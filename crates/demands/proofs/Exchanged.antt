@@ -14,7 +14,8 @@ use borrow.Author.Tests.{eqb-true, eqb-false}
 use Rattle.lines.specs.Line.{choose}
 use Rattle.tables.specs.Table.{Sofar}
 use Rattle.terms.specs.Term.{Term, definitions-of}
-use Rattle.rules.specs.Process.{Event, Address, cells}
+use Rattle.rules.specs.declared.Event.{Event}
+use Rattle.rules.specs.Process.{Address, cells}
 use Rattle.rules.specs.Run.{State, cell-room, node-room, arc-room, meeting-room, over-room, accepted, answer}
 use Rattle.rules.specs.Run as Run
 use Rattle.plans.specs.words.Layout.{layout}

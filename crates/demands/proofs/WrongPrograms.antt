@@ -4,37 +4,25 @@
 -- the state before it nor any state further on. One fixed track text contradicts `equal-bytes-exactly`, and invented counts
 -- `counts-follow`. Assumes nothing.
 use Prim.Native.Nat.{ℕ, _<_}
-use mathlib.Core.Path.{_≡_, refl, sym, ap, _∙_}
+use mathlib.Core.Path.{_≡_, sym, ap, _∙_}
 use mathlib.Core.List.{List}
 use mathlib.Core.Option.{some}
 use native.Mathlib.Omega.{arith}
 use Rattle.tables.specs.Table.{Sofar}
 use Rattle.terms.specs.Term.{Term, definitions-of}
-use Rattle.rules.specs.Process.{Event, τ, ✓, visible, Address}
+use Rattle.rules.specs.declared.Event.{Event}
+use Rattle.rules.specs.Process.{Address}
 use Rattle.rules.specs.Run.{State, answer}
 use Rattle.rules.specs.Run as Run
 use Rattle.rules.proofs.Drawing.{accepted-draws}
 use Rattle.plans.specs.words.Layout.{layout}
-use Rattle.runs.specs.words.Held.{Table, addressed, told-event, told, behind}
+use Rattle.runs.specs.words.Held.{Table, addressed, told, behind}
 use Rattle.rules.specs.Addressed.{answered}
 use Rattle.runs.specs.declared.Answer.{Answer}
 use Rattle.runs.specs.declared.Answer.the-variants.{Accepted, Refused}
 use Rattle.runs.specs.declared.Shown.{Shown}
 use Rattle.runs.proofs.Once.{held-once}
 use Rattle.demands.specs.words.Words.{Words, HoldsRun, Steps}
-
--- an event is told by one of the answer's
-told-apart : (e f : Event) → told-event e ≡ told-event f → e ≡ f
-unfolding told-event
-told-apart τ τ q = refl
-told-apart τ ✓ q = let z : _≡_ {A = ℕ} 0 1 = cc in absurd (omega arith)
-told-apart τ (visible n) q = let z : _≡_ {A = ℕ} 0 1 = cc in absurd (omega arith)
-told-apart ✓ τ q = let z : _≡_ {A = ℕ} 0 1 = cc in absurd (omega arith)
-told-apart ✓ ✓ q = refl
-told-apart ✓ (visible n) q = let z : _≡_ {A = ℕ} 0 1 = cc in absurd (omega arith)
-told-apart (visible m) τ q = let z : _≡_ {A = ℕ} 0 1 = cc in absurd (omega arith)
-told-apart (visible m) ✓ q = let z : _≡_ {A = ℕ} 0 1 = cc in absurd (omega arith)
-told-apart (visible m) (visible n) q = let z : m ≡ n = cc in ap visible z
 
 -- states that accepted steps lead to from a state, one or more
 pub data Ahead (ts : List Term) (s : State) : State → Type 0 where
@@ -64,7 +52,7 @@ module _ {p x : List ℕ} {t : Sofar} (table : Table (layout t) p x (definitions
     unfolding answered
     answered-so = ap (answered (definitions-of t) s) (step .named) ∙ step .accepts
 
-    event-told : r ≡ Accepted (record { event = told-event e })
+    event-told : r ≡ Accepted (record { event = e })
     unfolding told
     event-told = step .promised _ (definitions-of t) s table (step .held) .0 ∙ ap told answered-so
 
@@ -88,8 +76,8 @@ module _ {p x : List ℕ} {t : Sofar} (table : Table (layout t) p x (definitions
       → e ≡ f
   one-answer {e = e} {f = f} step other =
       let q = sym (event-told step) ∙ event-told other in
-      let same : _≡_ {A = Shown} (record { event = told-event e }) (record { event = told-event f }) = cc in
-      told-apart e f (ap (λ (shown : Shown). shown .event) same)
+      let same : _≡_ {A = Shown} (record { event = e }) (record { event = f }) = cc in
+      ap (λ (shown : Shown). shown .event) same
 
   -- one that leaves its buffers alone
   pub left-alone : {v : Words} {r : Answer} {s s′ : State} {e : Event} → Accepts p x t v r v s e s′ → ⊥

@@ -1,14 +1,21 @@
 // What a step writes: labels, arcs, fresh references and what stands at them, event nodes and meetings. It relies on the words
 // of a run.
+use control::EVENT_NODES_FROM;
 use control::FRAME;
 use control::LABEL;
+use control::MEETINGS_FROM;
+use control::Nodes;
 use control::STATE;
 use control::TERM;
+use control::Track;
 use control::put;
 use control::put_track;
 use control::sum;
 use control::track_word;
 use looking::leads;
+use rules::ARC_ROOM;
+use rules::MEETING_ROOM;
+use rules::NODE_ROOM;
 ghost use mathlib.Core.Path.{_≡_};
 ghost use Prim.Native.Nat.{_-_};
 ghost use Rattle.control.specs.words.Words.{event-node};
@@ -24,19 +31,8 @@ pub struct Tally {
     pub met: usize,
 }
 
-const ARC_ROOM: usize = 8192;
-
-// The words of a track: arcs from 0 on, then meetings, then the event nodes of a step.
-const MEETINGS: usize = 16384;
-
-const MEETING_ROOM: usize = 4096;
-
-const EVENT_NODES: usize = 24576;
-
-const NODE_ROOM: usize = 4096;
-
 // Labels a reference.
-pub fn label(n: usize, mark: usize, tally: Tally, nodes: &mut [u16; 65544]) -> Tally
+pub fn label(n: usize, mark: usize, tally: Tally, nodes: &mut Nodes) -> Tally
     ensures { λ r. ⌜ r ≡ spec.one-node tally ⌝ }
     ensures { λ _. ⌜ now (nodes .exit) ≡ spec.labelled n mark (now (nodes .entry)) ⌝ }
 {
@@ -51,7 +47,7 @@ pub fn label(n: usize, mark: usize, tally: Tally, nodes: &mut [u16; 65544]) -> T
 }
 
 // Makes an arc.
-pub fn arc(from: usize, to: usize, tally: Tally, track: &mut [u16; 28672]) -> Tally
+pub fn arc(from: usize, to: usize, tally: Tally, track: &mut Track) -> Tally
     ensures { λ r. ⌜ r ≡ spec.one-arc tally ⌝ }
     ensures { λ _. ⌜ now (track .exit) ≡ spec.with-arc from to (tally .arcs) (now (track .entry)) ⌝ }
 {
@@ -70,7 +66,7 @@ pub fn arc(from: usize, to: usize, tally: Tally, track: &mut [u16; 28672]) -> Ta
 }
 
 // Makes an arc to the next fresh reference, which is drawn by it.
-pub fn draw(from: usize, tally: Tally, track: &mut [u16; 28672]) -> Tally
+pub fn draw(from: usize, tally: Tally, track: &mut Track) -> Tally
     ensures { λ r. ⌜ r ≡ spec.drawn (spec.one-arc tally) ⌝ }
     ensures { λ _. ⌜ now (track .exit) ≡ spec.with-arc from (tally .fresh) (tally .arcs) (now (track .entry)) ⌝ }
 {
@@ -92,7 +88,7 @@ pub fn past_fresh(tally: Tally) -> Tally
 }
 
 // What stands at a reference.
-pub fn stand(n: usize, state: usize, term: usize, frame: usize, nodes: &mut [u16; 65544])
+pub fn stand(n: usize, state: usize, term: usize, frame: usize, nodes: &mut Nodes)
     ensures { λ _. ⌜ now (nodes .exit) ≡ spec.standing n state term frame (now (nodes .entry)) ⌝ }
 {
     put(n, STATE, state, nodes);
@@ -101,13 +97,13 @@ pub fn stand(n: usize, state: usize, term: usize, frame: usize, nodes: &mut [u16
 }
 
 // Keeps an event node of the step.
-pub fn keep(n: usize, tally: Tally, track: &mut [u16; 28672]) -> Tally
+pub fn keep(n: usize, tally: Tally, track: &mut Track) -> Tally
     ensures { λ r. ⌜ r ≡ spec.one-met tally ⌝ }
     ensures { λ _. ⌜ now (track .exit) ≡ spec.with-met n (tally .met) (now (track .entry)) ⌝ }
 {
     let at = tally.met;
     if at < NODE_ROOM {
-        put_track(EVENT_NODES + at, n, track);
+        put_track(EVENT_NODES_FROM + at, n, track);
     }
     Tally {
         fresh: tally.fresh,
@@ -119,14 +115,14 @@ pub fn keep(n: usize, tally: Tally, track: &mut [u16; 28672]) -> Tally
 }
 
 // Makes a meeting.
-fn meet(i: usize, j: usize, tally: Tally, track: &mut [u16; 28672]) -> Tally
+fn meet(i: usize, j: usize, tally: Tally, track: &mut Track) -> Tally
     ensures { λ r. ⌜ r ≡ spec.one-meeting tally ⌝ }
     ensures { λ _. ⌜ now (track .exit) ≡ spec.with-meeting i j (tally .meetings) (now (track .entry)) ⌝ }
 {
     let at = tally.meetings;
     if at < MEETING_ROOM {
-        put_track(MEETINGS + 2 * at, i, track);
-        put_track(MEETINGS + 2 * at + 1, j, track);
+        put_track(MEETINGS_FROM + 2 * at, i, track);
+        put_track(MEETINGS_FROM + 2 * at + 1, j, track);
     }
     Tally {
         fresh: tally.fresh,
@@ -138,18 +134,18 @@ fn meet(i: usize, j: usize, tally: Tally, track: &mut [u16; 28672]) -> Tally
 }
 
 // Event node number i of the step.
-fn event_node(i: usize, track: &[u16; 28672]) -> usize
+fn event_node(i: usize, track: &Track) -> usize
     ensures { λ r. ⌜ r ≡ event-node i (now (track .entry)) ⌝ }
 {
     if i < NODE_ROOM {
-        track_word(EVENT_NODES + i, track)
+        track_word(EVENT_NODES_FROM + i, track)
     } else {
         0
     }
 }
 
 // A node meets each of the event nodes from one number to another.
-fn meet_each(n: usize, from: usize, to: usize, tally: Tally, track: &mut [u16; 28672]) -> Tally
+fn meet_each(n: usize, from: usize, to: usize, tally: Tally, track: &mut Track) -> Tally
     ensures { λ r. ⌜ r ≡ spec.met-each n from (to - from) tally (now (track .entry)) .tally ⌝ }
     ensures { λ _. ⌜ now (track .exit) ≡ spec.met-each n from (to - from) tally (now (track .entry)) .track ⌝ }
 {
@@ -164,13 +160,7 @@ fn meet_each(n: usize, from: usize, to: usize, tally: Tally, track: &mut [u16; 2
 }
 
 // Each event node of a joint step's left part, up to `middle`, meets each of its right part.
-pub fn meet_all(
-    from: usize,
-    middle: usize,
-    to: usize,
-    tally: Tally,
-    track: &mut [u16; 28672],
-) -> Tally
+pub fn meet_all(from: usize, middle: usize, to: usize, tally: Tally, track: &mut Track) -> Tally
     ensures { λ r. ⌜ r ≡ spec.met-all from (middle - from) middle (to - middle) tally (now (track .entry)) .tally ⌝ }
     ensures { λ _. ⌜ now (track .exit)
         ≡ spec.met-all from (middle - from) middle (to - middle) tally (now (track .entry)) .track ⌝ }
@@ -186,7 +176,7 @@ pub fn meet_all(
 }
 
 // Each parent of two references gets an arc to a third, of the first so many arcs.
-pub fn join(first: usize, second: usize, to: usize, tally: Tally, track: &mut [u16; 28672]) -> Tally
+pub fn join(first: usize, second: usize, to: usize, tally: Tally, track: &mut Track) -> Tally
     ensures { λ r. ⌜ r ≡ spec.joined first second to 0 (tally .arcs) tally (now (track .entry)) .tally ⌝ }
     ensures { λ _. ⌜ now (track .exit)
         ≡ spec.joined first second to 0 (tally .arcs) tally (now (track .entry)) .track ⌝ }

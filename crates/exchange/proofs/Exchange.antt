@@ -8,7 +8,8 @@ use mathlib.Core.List.{List, _++_}
 use native.Mathlib.Omega.{arith}
 use lib.ListN.{length}
 use Rattle.terms.specs.Term.{Term}
-use Rattle.rules.specs.Process.{Event, Address, cells}
+use Rattle.rules.specs.declared.Event.{Event}
+use Rattle.rules.specs.Process.{Address, cells}
 use Rattle.rules.specs.Track.{Outcome, lookup}
 use Rattle.rules.specs.Tracking.{Tracks}
 use Rattle.rules.specs.Run.{State, stands, after, over-room, accepted, refused, within-room, answer, Reached}

@@ -8,7 +8,8 @@ use mathlib.Core.Option.{Option, none, some}
 use native.Mathlib.Omega.{arith}
 use Rattle.terms.specs.Term.{Term}
 use Rattle.places.specs.Place.{Place}
-use Rattle.rules.specs.Process.{Event, Address, together, Process}
+use Rattle.rules.specs.declared.Event.{Event}
+use Rattle.rules.specs.Process.{Address, together, Process}
 use Rattle.rules.specs.Track.{Label, Pair, pair, At, Outcome, Entered, first-eval, inside, around}
 use Rattle.rules.specs.Tracking.{Shows, Tracks}
 use Rattle.rules.proofs.Outward.{draws}

@@ -9,7 +9,8 @@ use mathlib.Core.Option.{Option, none, some}
 use native.Mathlib.Omega.{arith}
 use Rattle.terms.specs.Term.{Term}
 use Rattle.places.specs.Place.{Place}
-use Rattle.rules.specs.Process.{Event, Digit, one, two, Address, Split, together, Process, split, sequence}
+use Rattle.rules.specs.declared.Event.{Event}
+use Rattle.rules.specs.Process.{Digit, one, two, Address, Split, together, Process, split, sequence}
 use Rattle.rules.specs.Track.{At, Outcome, first-eval, inside, around}
 use Rattle.rules.specs.Tracking.{Shows, Tracks, synchronized-parallelism-1, synchronized-parallelism-2}
 use Rattle.rules.proofs.Marked.{past, past-drawn, next-past, Unentered, By-side, Fit, side-fit}

@@ -10,7 +10,9 @@ use mathlib.Core.Option.{Option, none, some}
 use native.Mathlib.Omega.{arith}
 use Rattle.terms.specs.Term.{Term}
 use Rattle.places.specs.Place.{Place}
-use Rattle.rules.specs.Process.{Event, ✓, Address, together, Process, sequence}
+use Rattle.rules.specs.declared.Event.{Event}
+use Rattle.rules.specs.declared.Event.the-variants.{Tick as ✓}
+use Rattle.rules.specs.Process.{Address, together, Process, sequence}
 use Rattle.rules.specs.Track.{At, Outcome, first-eval, inside, around, carried}
 use Rattle.rules.specs.Tracking.{Shows, passes, hides-τ, hides-✓, Tracks, sequential-composition-1}
 use Rattle.rules.proofs.Outward.{entering-draws}

@@ -9,7 +9,8 @@ use mathlib.Core.Option.{Option}
 use mathlib.Core.Logic.{_⊎_, inl, inr}
 use Rattle.terms.specs.Term.{Term}
 use Rattle.places.specs.Place.{Place}
-use Rattle.rules.specs.Process.{✓, Address, together, Process, sequence}
+use Rattle.rules.specs.declared.Event.the-variants.{Tick as ✓}
+use Rattle.rules.specs.Process.{Address, together, Process, sequence}
 use Rattle.rules.specs.Track.{At, Outcome, first-eval, inside, carried}
 use Rattle.rules.specs.Tracking.{Tracks, sequential-composition-1, sequential-composition-2}
 use Rattle.exchange.specs.Opposite.{Opposite, left-and-right, right-and-left, both-left, both-right}

@@ -15,7 +15,9 @@ use borrow.Author.Tests.{eqb-true, eqb-false, eq-eqb, ne-eqb}
 use Rattle.lines.specs.Line.{choose}
 use Rattle.terms.specs.Term.{Term}
 use Rattle.places.specs.Place.{Place}
-use Rattle.rules.specs.Process.{Event, Address, Process, split, rhs, Ω, ⊥′, choice, together}
+use Rattle.rules.specs.declared.Event.{Event}
+use Rattle.rules.specs.declared.Event.the-variants.{Tau as τ}
+use Rattle.rules.specs.Process.{Address, Process, split, rhs, Ω, ⊥′, choice, together}
 use Rattle.rules.specs.Track.{Label, Pair, pair, At, Outcome, labelled, prefixed, Entered, first-eval, inside}
 use Rattle.rules.specs.Track.{around, beside, right-eval, each-with, meet, jointly, carried, started, leads}
 use Rattle.rules.specs.Track.{parents, ended}
@@ -284,7 +286,7 @@ module _ (φ : ℕ → ℕ) (d : ℕ) where
           let same = renamed-fixed φ 0 (λ m h. absurd (omega (arith, h))) (rhs ts n)
           (unentered-under 0 (rhs ts n) (rhs-unentered n (getElem? ts n))) in
           subst (Tracks ts [] _ (moved g s))
-          (ap (λ P. labelled Event.τ P w (moved g s)) (sym same)
+          (ap (λ P. labelled τ P w (moved g s)) (sym same)
           ∙ labelled-renamed _ (rhs ts n) w s g (v (s .fresh) (omega arith) (omega (arith, l)))) process-call
       tracks-renamed (prefixing {a = e} {w = w} {P = P} {s = s}) g u v l k =
           subst (Tracks ts [] _ (moved g s))

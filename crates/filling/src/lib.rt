@@ -1,8 +1,15 @@
 // A table's columns filled: a frame that meets no refusal is taken in, and the preorder walk tells, from the last term to the
 // first, which term stands behind each term and its subterms. It relies on the table by kind.
+use columns::After;
+use columns::Kinds;
+use columns::Owners;
+use columns::Payloads;
+use columns::Roots;
 use frames::Frame;
 use frames::Seen;
+use frames::TERM_ROOM;
 use kinds::subterms;
+use numbers::wide;
 ghost use mathlib.Core.Path.{_≡_};
 ghost use Prim.Native.Nat.{_+_, _-_, _<_, _≤_};
 ghost use Rattle.filling.specs.code.Taking.{Ready, topmost, owed, pushed, started, seen-then};
@@ -11,15 +18,20 @@ ghost use Rattle.filling.specs.code.Taking.{roots-then, column-then};
 ghost use lib.ListN.{length, getD};
 ghost use Rattle.filling.specs.words.Preorder.{past, walked};
 
+// The path lengths of the terms due behind the next: one for each level of a path, and the root's.
+pub const LEVEL_ROOM: usize = 65;
+
+pub type Waiting = [u8; LEVEL_ROOM];
+
 // Takes a frame in that meets no refusal.
 pub fn take(
     frame: Frame,
     s: Seen,
-    waiting: &mut [u8; 65],
-    kinds: &mut [u8; 1024],
-    payloads: &mut [u64; 1024],
-    owners: &mut [u8; 1024],
-    roots: &mut [u16; 64],
+    waiting: &mut Waiting,
+    kinds: &mut Kinds,
+    payloads: &mut Payloads,
+    owners: &mut Owners,
+    roots: &mut Roots,
 ) -> Seen
     requires { ⌜ Ready frame s ⌝ }
     ensures { λ r. ⌜ r ≡ seen-then frame s (now (waiting .entry)) ⌝ }
@@ -70,7 +82,7 @@ fn begin(s: Seen) -> Seen
 }
 
 // A term is taken in, and its subterms are due.
-fn owe(kind: u8, s: Seen, waiting: &mut [u8; 65]) -> Seen
+fn owe(kind: u8, s: Seen, waiting: &mut Waiting) -> Seen
     requires { ⌜ (0 < s .due) × (s .terms < 1024) × (s .depth ≤ 64) × (s .due ≤ s .depth + 1) ⌝ }
     ensures { λ r. ⌜ r ≡ owed kind s (now (waiting .entry)) ⌝ }
     ensures { λ _. ⌜ now (waiting .exit) ≡ pushed kind s (now (waiting .entry)) ⌝ }
@@ -112,7 +124,7 @@ fn owe(kind: u8, s: Seen, waiting: &mut [u8; 65]) -> Seen
 }
 
 // The last of the others' path lengths; 0 where there is none.
-fn last(others: usize, waiting: &[u8; 65]) -> usize
+fn last(others: usize, waiting: &Waiting) -> usize
     requires { ⌜ others ≤ 64 ⌝ }
     ensures { λ r. ⌜ r ≡ topmost others (now (waiting .entry)) ⌝ }
 {
@@ -123,14 +135,8 @@ fn last(others: usize, waiting: &[u8; 65]) -> usize
     wide(waiting[at])
 }
 
-fn wide(x: u8) -> usize
-    ensures { λ r. ⌜ r ≡ x ⌝ }
-{
-    x as usize
-}
-
 // Fills in, for each of the first `count` terms, the number of the term behind it.
-pub fn walk(kinds: &[u8; 1024], count: usize, after: &mut [u16; 1024])
+pub fn walk(kinds: &Kinds, count: usize, after: &mut After)
     requires { ⌜ (count ≤ 1024) × (length (now after) ≡ 1024) ⌝ }
     ensures { λ _. ⌜ now (after .exit) ≡ walked count (now (kinds .entry)) (now (after .entry)) ⌝ }
 {
@@ -145,7 +151,7 @@ pub fn walk(kinds: &[u8; 1024], count: usize, after: &mut [u16; 1024])
 }
 
 // The number of the term behind n terms and their subterms, from number j on.
-pub fn behind(n: u8, j: usize, after: &[u16; 1024]) -> u16
+pub fn behind(n: u8, j: usize, after: &After) -> u16
     requires { ⌜ (n ≤ 2) × (j ≤ 1024) × (length (now after) ≡ 1024) ⌝ }
     ensures { λ r. ⌜ r ≡ past n j (now (after .entry)) ⌝ }
 {
@@ -160,9 +166,9 @@ pub fn behind(n: u8, j: usize, after: &[u16; 1024]) -> u16
 }
 
 // The number of the term behind term j, 0 where there is no such term.
-fn after_of(j: usize, after: &[u16; 1024]) -> u16
+fn after_of(j: usize, after: &After) -> u16
     requires { ⌜ length (now after) ≡ 1024 ⌝ }
     ensures { λ r. ⌜ r ≡ getD (now (after .entry)) j 0 ⌝ }
 {
-    if j < 1024 { after[j] } else { 0 }
+    if j < TERM_ROOM { after[j] } else { 0 }
 }

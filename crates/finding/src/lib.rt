@@ -1,7 +1,13 @@
 // The mark of a node by its line: its number and its place have to be a node's, and the path is followed digit by digit.
+use columns::After;
+use columns::Kinds;
+use columns::Roots;
 use columns::after_of;
 use columns::kind_of;
+use columns::root_of;
 use columns::wide;
+use frames::DEFINITION_ROOM;
+use frames::TERM_ROOM;
 use kinds::subterms;
 use numbers::byte;
 use numbers::byte_at;
@@ -20,39 +26,29 @@ ghost use Rattle.graphs.specs.Shape.{same};
 ghost use Rattle.finding.specs.code.Found as of;
 ghost use Rattle.finding.specs.words.Node.{label-at};
 
-const TERMS: usize = 1024;
-
-const DEFINITIONS: usize = 64;
-
 // Where a node's line has its number, its definition and its path.
-const NUMBER: usize = 1;
+const NUMBER_AT: usize = 1;
 
-const DEFINITION: usize = 3;
+const DEFINITION_AT: usize = 3;
 
-const PATH: usize = 5;
+const PATH_AT: usize = 5;
 
 // The mark of the left-hand side of definition 00.
-const START: u16 = 1;
+const START_MARK: u16 = 1;
 
 // The mark of node k by its line; 0 where the line has another number, or a place that is not a node's.
-pub fn mark_of(
-    k: usize,
-    chars: &[u8],
-    kinds: &[u8; 1024],
-    after: &[u16; 1024],
-    roots: &[u16; 64],
-) -> u16
+pub fn mark_of(k: usize, chars: &[u8], kinds: &Kinds, after: &After, roots: &Roots) -> u16
     ensures { λ r. ⌜ ((bs : List ℕ) → bytes (now (chars .entry)) ≡ some bs → 5 ≤ length bs
         → r ≡ of.mark-of (now (kinds .entry)) (now (after .entry)) (now (roots .entry)) k (label-at bs)) ⌝ }
 {
-    if number_at(chars, NUMBER) != k {
+    if number_at(chars, NUMBER_AT) != k {
         return 0;
     }
     if k == 0 {
         return start_mark(chars);
     }
     find(
-        root_of(byte_at(chars, DEFINITION), roots),
+        root_of(byte_at(chars, DEFINITION_AT), roots),
         chars,
         kinds,
         after,
@@ -67,23 +63,23 @@ fn start_mark(chars: &[u8]) -> u16
     if chars.len() != 12 {
         return 0;
     }
-    if byte(chars, DEFINITION) != 0 {
+    if byte(chars, DEFINITION_AT) != 0 {
         return 0;
     }
-    if byte(chars, PATH) != 0 {
+    if byte(chars, PATH_AT) != 0 {
         return 0;
     }
-    START
+    START_MARK
 }
 
 // The mark of the literal at a line's path from a term on; 0 where there is none.
-fn find(root: usize, chars: &[u8], kinds: &[u8; 1024], after: &[u16; 1024]) -> u16
+fn find(root: usize, chars: &[u8], kinds: &Kinds, after: &After) -> u16
     ensures { λ r. ⌜ ((bs : List ℕ) → bytes (now (chars .entry)) ≡ some bs
         → r ≡ of.find (now (kinds .entry)) (now (after .entry)) root (drop 5 bs)) ⌝ }
 {
     let count = chars.len() / 2;
     let mut term = root;
-    let mut i: usize = PATH;
+    let mut i: usize = PATH_AT;
     while i < count {
         let digit = byte(chars, i);
         let below = subterms(kind_of(term, kinds));
@@ -121,14 +117,14 @@ fn event_mark(term: usize, ends: bool) -> u16
 fn own_mark(term: usize) -> u16
     ensures { λ r. ⌜ r ≡ of.own-mark term ⌝ }
 {
-    if TERMS <= term {
+    if TERM_ROOM <= term {
         return 0;
     }
     ((2 * term + 2) % 65536) as u16
 }
 
 // The last subterm of a term.
-fn last_subterm(term: usize, below: u8, after: &[u16; 1024]) -> usize
+fn last_subterm(term: usize, below: u8, after: &After) -> usize
     requires { ⌜ term < 1024 ⌝ }
     ensures { λ r. ⌜ r ≡ choose (eqb below 2) (look 1024 (now (after .entry)) (term + 1)) (term + 1) ⌝ }
 {
@@ -136,15 +132,5 @@ fn last_subterm(term: usize, below: u8, after: &[u16; 1024]) -> usize
         after_of(term + 1, after)
     } else {
         term + 1
-    }
-}
-
-fn root_of(definition: usize, roots: &[u16; 64]) -> usize
-    ensures { λ r. ⌜ r ≡ look 64 (now (roots .entry)) definition ⌝ }
-{
-    if definition < DEFINITIONS {
-        wide(roots[definition])
-    } else {
-        0
     }
 }

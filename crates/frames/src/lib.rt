@@ -11,6 +11,32 @@ ghost use lib.ListN.{getD};
 ghost use Rattle.lines.specs.Line.{bytes};
 ghost use Rattle.frames.specs.TableFrame.{frame-of};
 
+// First bytes of a table's frames.
+pub const TABLE_FRAME: u8 = 0x10;
+
+pub const DEFINITION_FRAME: u8 = 0x11;
+
+pub const TERM_FRAME: u8 = 0x12;
+
+pub const TABLE_END_FRAME: u8 = 0x1f;
+
+// The edition of a table.
+pub const TABLE_EDITION: u8 = 1;
+
+// The most definitions and events that a table opens with.
+pub const MOST_DEFINITIONS: u8 = 64;
+
+pub const MOST_EVENTS: u8 = 64;
+
+// The rooms of a table.
+pub const TERM_ROOM: usize = 1024;
+
+pub const PATH_ROOM: usize = 64;
+
+pub const DEFINITION_ROOM: usize = 64;
+
+pub const EVENT_ROOM: usize = 64;
+
 // A table's frame; `Wrong` stands for any bytes that are none.
 pub enum Frame {
     Opening {
@@ -38,36 +64,28 @@ pub struct Seen {
     pub depth: usize,
 }
 
-const OPENING: u8 = 0x10;
-
-const DEFINITION: u8 = 0x11;
-
-const TERM: u8 = 0x12;
-
-const CLOSING: u8 = 0x1f;
-
 // The frame that a line's characters stand for.
 pub fn read_frame(chars: &[u8]) -> Frame
     ensures { λ r. ⌜ ((bs : List ℕ) → bytes (now (chars .entry)) ≡ some bs → r ≡ frame-of bs) ⌝ }
 {
     let count = chars.len() / 2;
     let tag = byte(chars, 0);
-    if tag == TERM {
+    if tag == TERM_FRAME {
         return read_term(chars);
     }
-    if tag == DEFINITION {
+    if tag == DEFINITION_FRAME {
         if count != 2 {
             return Frame::Wrong;
         }
         return Frame::Definition(byte(chars, 1));
     }
-    if tag == CLOSING {
+    if tag == TABLE_END_FRAME {
         if count != 3 {
             return Frame::Wrong;
         }
         return Frame::Closing(number(&chars[2..]));
     }
-    if tag != OPENING {
+    if tag != TABLE_FRAME {
         return Frame::Wrong;
     }
     if count != 4 {

@@ -1,8 +1,20 @@
 // Lines of a saved track put into a slice: the first line, those of nodes, arcs and meetings, and the last. It relies on the
 // places of literals and on putting bytes.
+use columns::After;
+use columns::Kinds;
+use columns::Owners;
+use columns::Roots;
+use control::Track;
 use control::track_word;
+use frames::PATH_ROOM;
+use graphs::NODE_FRAME;
+use graphs::TRACK_EDITION;
+use graphs::TRACK_END_FRAME;
+use graphs::TRACK_FRAME;
+use links::Column;
 use links::reference_word;
 use places::Literal;
+use places::Path;
 use places::Placed;
 use places::place;
 use spelling::put_byte;
@@ -21,21 +33,14 @@ ghost use Rattle.columns.specs.words.Columns.{columns};
 ghost use Rattle.framing.specs.words.Told.{literal, labels-told};
 ghost use Rattle.framing.specs.code.Placed.{told-length, told-definition};
 
-// First bytes of the first and the last line.
-const OPENING: u8 = 48;
-
-const LAST: u8 = 63;
-
-const EDITION: u8 = 1;
-
 // `30 01 nnnn aaaa ssss`, at the front.
 pub fn put_opening(nodes: usize, arcs: usize, meetings: usize, out: &mut [u8]) -> usize
     ensures { λ r. ⌜ Puts 0 (text ((0x30 ∷ 1 ∷ two nodes ++ two arcs ++ two meetings) ∷ []))
         (now (out .entry)) (now (out .exit)) r ⌝ }
     ensures { λ r. ⌜ r ≡ 17 ⌝ }
 {
-    let a = put_byte(0, OPENING, out);
-    let b = put_byte(a, EDITION, out);
+    let a = put_byte(0, TRACK_FRAME, out);
+    let b = put_byte(a, TRACK_EDITION, out);
     let c = put_number(b, nodes, out);
     let d = put_number(c, arcs, out);
     let e = put_number(d, meetings, out);
@@ -47,7 +52,7 @@ pub fn put_pairs(
     code: u8,
     base: usize,
     count: usize,
-    track: &[u16; 28672],
+    track: &Track,
     from: usize,
     out: &mut [u8],
 ) -> usize
@@ -89,15 +94,12 @@ pub fn put_last(at: usize, out: &mut [u8]) -> usize
     requires { ⌜ at ≤ 2000000 ⌝ }
     ensures { λ r. ⌜ Puts at (text ((0x3f ∷ []) ∷ [])) (now (out .entry)) (now (out .exit)) r ⌝ }
 {
-    let a = put_byte(at, LAST, out);
+    let a = put_byte(at, TRACK_END_FRAME, out);
     put_end(a, out)
 }
 
 // No table has it: the definition of a mark that tells no place.
 const NOWHERE: u8 = 64;
-
-// First byte of a node's frame.
-const NODE: u8 = 49;
 
 // Bytes of a node's line with no path.
 const NODE_LINE: usize = 11;
@@ -105,11 +107,11 @@ const NODE_LINE: usize = 11;
 // How long the lines of so many nodes are.
 pub fn nodes_length(
     count: usize,
-    labels: &[u16; 8193],
-    kinds: &[u8; 1024],
-    owners: &[u8; 1024],
-    after: &[u16; 1024],
-    roots: &[u16; 64],
+    labels: &Column,
+    kinds: &Kinds,
+    owners: &Owners,
+    after: &After,
+    roots: &Roots,
 ) -> usize
     requires { ⌜ count ≤ 8193 ⌝ }
     ensures { λ r. ⌜ r ≡ length (text (map node-frame (labels-told
@@ -117,7 +119,7 @@ pub fn nodes_length(
         (now (labels .entry)) 0 count))) ⌝ }
     ensures { λ r. ⌜ r ≤ 139 * count ⌝ }
 {
-    let mut path = [0u8; 64];
+    let mut path = [0u8; PATH_ROOM];
     let mut length: usize = 0;
     let mut k: usize = 0;
     while k < count {
@@ -138,11 +140,11 @@ pub fn nodes_length(
 // Puts the lines of so many nodes.
 pub fn put_nodes(
     count: usize,
-    labels: &[u16; 8193],
-    kinds: &[u8; 1024],
-    owners: &[u8; 1024],
-    after: &[u16; 1024],
-    roots: &[u16; 64],
+    labels: &Column,
+    kinds: &Kinds,
+    owners: &Owners,
+    after: &After,
+    roots: &Roots,
     from: usize,
     out: &mut [u8],
 ) -> usize
@@ -152,7 +154,7 @@ pub fn put_nodes(
         (now (labels .entry)) 0 count))) (now (out .entry)) (now (out .exit)) r ⌝ }
     ensures { λ r. ⌜ r ≤ from + 139 * count ⌝ }
 {
-    let mut path = [0u8; 64];
+    let mut path = [0u8; PATH_ROOM];
     let mut at = from;
     let mut k: usize = 0;
     while k < count {
@@ -171,13 +173,13 @@ pub fn put_nodes(
 }
 
 // Puts a node's line: `31 iiii dd ll path`.
-fn put_node(number: usize, placed: Placed, path: &[u8; 64], at: usize, out: &mut [u8]) -> usize
+fn put_node(number: usize, placed: Placed, path: &Path, at: usize, out: &mut [u8]) -> usize
     requires { ⌜ (length (now path) ≡ 64) × (told-length placed ≤ 64) × (at ≤ 2000000) ⌝ }
     ensures { λ r. ⌜ Puts at (text ((0x31 ∷ two number ++ (told-definition placed ∷ told-length placed
         ∷ take (told-length placed) (now (path .entry)))) ∷ [])) (now (out .entry)) (now (out .exit)) r ⌝ }
 {
     let digits = path_length(placed);
-    let a = put_byte(at, NODE, out);
+    let a = put_byte(at, NODE_FRAME, out);
     let b = put_number(a, number, out);
     let c = put_byte(b, definition_of(placed), out);
     let d = put_byte(c, digits as u8, out);
@@ -186,7 +188,7 @@ fn put_node(number: usize, placed: Placed, path: &[u8; 64], at: usize, out: &mut
 }
 
 // Puts the first digits of a path.
-fn put_path(path: &[u8; 64], count: usize, from: usize, out: &mut [u8]) -> usize
+fn put_path(path: &Path, count: usize, from: usize, out: &mut [u8]) -> usize
     requires { ⌜ (length (now path) ≡ 64) × (count ≤ 64) × (from ≤ 2500000) ⌝ }
     ensures { λ r. ⌜ Puts from (hex (take count (now (path .entry)))) (now (out .entry)) (now (out .exit)) r ⌝ }
 {

@@ -11,7 +11,8 @@ use mathlib.Core.Logic.{_⊎_, inl, inr}
 use native.Mathlib.Omega.{arith}
 use Rattle.terms.specs.Term.{Term}
 use Rattle.places.specs.Place.{Place, left-path}
-use Rattle.rules.specs.Process.{Address, Process, below, main, rhs, τ}
+use Rattle.rules.specs.declared.Event.the-variants.{Tau as τ}
+use Rattle.rules.specs.Process.{Address, Process, below, main, rhs}
 use Rattle.rules.specs.Track.{Label, At, Outcome, labelled, prefixed, first-eval, around, jointly, carried}
 use Rattle.rules.specs.Track.{started, ended}
 use Rattle.rules.specs.Tracking.{Tracks, process-call, prefixing, skip, stop, internal-choice-1}

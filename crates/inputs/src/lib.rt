@@ -1,10 +1,17 @@
 // Where a table's text ends in a program's input, and its script begins.
+use lines::LF;
 ghost use mathlib.Core.Path.{_≡_};
 ghost use Rattle.lines.specs.Line.{lines};
 ghost use Rattle.inputs.specs.Cut.{table-length, starts-1f};
 ghost use Rattle.inputs.specs.code.Lengths.{line-length};
 
-const LF: u8 = 10;
+// Bytes of an input that are enough: the rooms of a table's text and of a script's, and one byte more.
+pub const INPUT_ROOM: usize = 98305;
+
+// Where a program reads and writes.
+pub const STANDARD_INPUT: i32 = 0;
+
+pub const STANDARD_OUTPUT: i32 = 1;
 
 // The table's text runs through the first line that starts `1f`, or to the end.
 pub fn table_end(text: &[u8]) -> usize

@@ -3,15 +3,15 @@
 // ends the work. All that it tells comes from the proved libraries; here it is only read and written.
 mod words;
 
+use frames::DEFINITION_ROOM;
+use frames::TERM_ROOM;
+use inputs::INPUT_ROOM;
 use inputs::table_end;
 use tables::Checked;
 use tables::check;
 use words::say_refusal;
 use words::say_script;
 use words::say_table;
-
-// A table's text, a script's, and one byte more, so that a text over its room is seen to be.
-const INPUT_ROOM: usize = 98305;
 
 fn main() {
     let mut buffer = [0u8; INPUT_ROOM];
@@ -21,11 +21,11 @@ fn main() {
 
 // Judges the table's text, and behind it the script.
 fn judge(text: &[u8]) {
-    let mut kinds = [0u8; 1024];
-    let mut payloads = [0u64; 1024];
-    let mut owners = [0u8; 1024];
-    let mut after = [0u16; 1024];
-    let mut roots = [0u16; 64];
+    let mut kinds = [0u8; TERM_ROOM];
+    let mut payloads = [0u64; TERM_ROOM];
+    let mut owners = [0u8; TERM_ROOM];
+    let mut after = [0u16; TERM_ROOM];
+    let mut roots = [0u16; DEFINITION_ROOM];
     let end = table_end(text);
     let checked = check(
         &text[..end],

@@ -3,6 +3,23 @@
 ghost use mathlib.Core.Path.{_≡_};
 ghost use Rattle.kinds.specs.Kind as Kinds;
 
+// The kinds of terms, as a frame and a column have them.
+pub const CALL: u8 = 1;
+
+pub const PREFIX: u8 = 2;
+
+pub const INTERNAL: u8 = 3;
+
+pub const EXTERNAL: u8 = 4;
+
+pub const SEQUENCE: u8 = 5;
+
+pub const PARALLEL: u8 = 6;
+
+pub const SKIP: u8 = 7;
+
+pub const STOP: u8 = 8;
+
 const PAYLOAD_BYTES: [u8; 9] = [0, 1, 1, 0, 0, 0, 8, 0, 0];
 
 const SUBTERMS: [u8; 9] = [0, 0, 1, 2, 2, 2, 2, 0, 0];

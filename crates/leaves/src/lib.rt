@@ -1,11 +1,12 @@
 // The steps that look no further down: of call, prefix, internal choice, SKIP and STOP, of two ended sides, and of a sequence
 // whose left has ended. It relies on what a step writes.
 use control::BOTTOM;
-use control::Event;
 use control::FRAME;
+use control::Nodes;
 use control::OMEGA;
 use control::SIDES;
 use control::TERM;
+use control::Track;
 use control::UNTOUCHED;
 use control::less;
 use control::sum;
@@ -19,10 +20,16 @@ use drawing::past_fresh;
 use drawing::stand;
 use looking::beyond;
 use looking::taken;
+use plans::CALL_WORD;
+use plans::PREFIX_WORD;
+use plans::Plan;
+use plans::SKIP_WORD;
+use plans::STOP_WORD;
 use plans::around_of;
 use plans::kind_of;
 use plans::operand_of;
 use plans::second_of;
+use rules::Event;
 ghost use mathlib.Core.Path.{_≡_};
 ghost use Rattle.leaves.specs.code.Leaves as spec;
 
@@ -36,19 +43,11 @@ pub struct Taken {
     pub tally: Tally,
 }
 
-const CALL: usize = 1;
-
-const PREFIX: usize = 2;
-
-const SKIP: usize = 7;
-
-const STOP: usize = 8;
-
 // The mark of the left-hand side of definition 00.
 const LEFT_MARK: usize = 1;
 
 // The start's call, at reference 0: its node is labelled with the left-hand side of definition 00, whose root is term 0.
-pub fn call_start(tally: Tally, nodes: &mut [u16; 65544], track: &mut [u16; 28672]) -> Taken
+pub fn call_start(tally: Tally, nodes: &mut Nodes, track: &mut Track) -> Taken
     ensures { λ r. ⌜ r ≡ spec.called tally (now (nodes .entry)) (now (track .entry)) .taken ⌝ }
     ensures { λ _. ⌜ now (nodes .exit) ≡ spec.called tally (now (nodes .entry)) (now (track .entry)) .nodes ⌝ }
     ensures { λ _. ⌜ now (track .exit) ≡ spec.called tally (now (nodes .entry)) (now (track .entry)) .track ⌝ }
@@ -67,9 +66,9 @@ pub fn take_leaf(
     size: usize,
     digit: usize,
     tally: Tally,
-    plan: &[u16; 4096],
-    nodes: &mut [u16; 65544],
-    track: &mut [u16; 28672],
+    plan: &Plan,
+    nodes: &mut Nodes,
+    track: &mut Track,
 ) -> Taken
     ensures { λ r. ⌜ r ≡ spec.leaf (now (plan .entry)) n bound at size digit tally (now (nodes .entry)) (now (track .entry)) .taken ⌝ }
     ensures { λ _. ⌜ now (nodes .exit) ≡ spec.leaf (now (plan .entry)) n bound at size digit tally (now (nodes .entry)) (now (track .entry)) .nodes ⌝ }
@@ -78,22 +77,22 @@ pub fn take_leaf(
     let t = word(n, TERM, nodes);
     let frame = word(n, FRAME, nodes);
     let kind = kind_of(t, plan);
-    if kind == PREFIX {
+    if kind == PREFIX_WORD {
         let event = operand_of(t, plan);
         return take_prefix(n, t, frame, event, at, size, tally, nodes, track);
     }
     let next = tally.fresh;
     let drawn = draw(n, label(n, own_mark(t), tally, nodes), track);
-    if kind == SKIP {
+    if kind == SKIP_WORD {
         stand(next, OMEGA, 0, 0, nodes);
         let ended = come(Event::Tick, next, size, at, drawn);
         return settle(ended, t, frame, bound, plan, nodes, track);
     }
-    if kind == STOP {
+    if kind == STOP_WORD {
         stand(next, BOTTOM, t, frame, nodes);
         return come(Event::Tau, next, size, at, drawn);
     }
-    if kind == CALL {
+    if kind == CALL_WORD {
         let root = operand_of(t, plan);
         let outer = beyond(t, n, frame, plan);
         stand(next, UNTOUCHED, root, outer, nodes);
@@ -113,8 +112,8 @@ fn take_prefix(
     at: usize,
     size: usize,
     tally: Tally,
-    nodes: &mut [u16; 65544],
-    track: &mut [u16; 28672],
+    nodes: &mut Nodes,
+    track: &mut Track,
 ) -> Taken
     ensures { λ r. ⌜ r ≡ spec.prefix n t frame event at size tally (now (nodes .entry)) (now (track .entry)) .taken ⌝ }
     ensures { λ _. ⌜ now (nodes .exit) ≡ spec.prefix n t frame event at size tally (now (nodes .entry)) (now (track .entry)) .nodes ⌝ }
@@ -136,9 +135,9 @@ pub fn take_end(
     at: usize,
     size: usize,
     tally: Tally,
-    plan: &[u16; 4096],
-    nodes: &mut [u16; 65544],
-    track: &mut [u16; 28672],
+    plan: &Plan,
+    nodes: &mut Nodes,
+    track: &mut Track,
 ) -> Taken
     ensures { λ r. ⌜ r ≡ spec.end (now (plan .entry)) n bound at size tally (now (nodes .entry)) (now (track .entry)) .taken ⌝ }
     ensures { λ _. ⌜ now (nodes .exit) ≡ spec.end (now (plan .entry)) n bound at size tally (now (nodes .entry)) (now (track .entry)) .nodes ⌝ }
@@ -162,9 +161,9 @@ pub fn settle(
     t: usize,
     frame: usize,
     bound: usize,
-    plan: &[u16; 4096],
-    nodes: &mut [u16; 65544],
-    track: &mut [u16; 28672],
+    plan: &Plan,
+    nodes: &mut Nodes,
+    track: &mut Track,
 ) -> Taken
     ensures { λ r. ⌜ r ≡ spec.settled (now (plan .entry)) done t frame bound (now (nodes .entry)) (now (track .entry)) .taken ⌝ }
     ensures { λ _. ⌜ now (nodes .exit) ≡ spec.settled (now (plan .entry)) done t frame bound (now (nodes .entry)) (now (track .entry)) .nodes ⌝ }
@@ -191,9 +190,9 @@ fn start(
     done: Taken,
     k: usize,
     frame: usize,
-    plan: &[u16; 4096],
-    nodes: &mut [u16; 65544],
-    track: &mut [u16; 28672],
+    plan: &Plan,
+    nodes: &mut Nodes,
+    track: &mut Track,
 ) -> Taken
     ensures { λ r. ⌜ r ≡ spec.started (now (plan .entry)) done k frame (now (nodes .entry)) (now (track .entry)) .taken ⌝ }
     ensures { λ _. ⌜ now (nodes .exit) ≡ spec.started (now (plan .entry)) done k frame (now (nodes .entry)) (now (track .entry)) .nodes ⌝ }

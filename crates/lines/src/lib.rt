@@ -6,7 +6,35 @@ ghost use lib.ListN.{length, drop};
 ghost use Rattle.lines.specs.Line.{digit, lines, answer, refusal};
 ghost use Rattle.lines.specs.code.Characters.{run, part};
 
-const LF: u8 = 10;
+// The line feed.
+pub const LF: u8 = 10;
+
+// Document 01's numbers of refusal.
+pub const NO_LINE: u8 = 1;
+
+pub const WRONG_FRAME: u8 = 2;
+
+pub const OUT_OF_RANGE: u8 = 3;
+
+pub const INCOMPLETE: u8 = 4;
+
+pub const TERM_OVER_ROOM: u8 = 5;
+
+pub const TEXT_OVER_ROOM: u8 = 6;
+
+pub const NO_DERIVATION: u8 = 7;
+
+pub const CELLS_OVER_ROOM: u8 = 8;
+
+pub const NODES_OVER_ROOM: u8 = 9;
+
+pub const ARCS_OVER_ROOM: u8 = 10;
+
+pub const MEETINGS_OVER_ROOM: u8 = 11;
+
+pub const SLICE_TOO_SHORT: u8 = 12;
+
+pub const SHAPE_BROKEN: u8 = 13;
 
 // What stands at a cursor: a line, whose characters run from the cursor up to `end`, with the next line from
 // `next` on; something that is no line; or the end of the text.
@@ -60,8 +88,8 @@ pub fn refusal_of(line: Line) -> u8
 {
     match line {
         Line::Found { end: _, next: _ } => 0,
-        Line::NoLine => 1,
-        Line::End => 2,
+        Line::NoLine => NO_LINE,
+        Line::End => WRONG_FRAME,
     }
 }
 

@@ -1,9 +1,16 @@
 // A graph in columns is the marks of its references, as a run's nodes have them, and its arcs, as a run's track has them. Its
 // arcs are linked to the sides of their nodes: which side an arc leads to is told by the marks of its ends alone.
+use columns::After;
+use columns::Kinds;
 use columns::after_of;
 use columns::kind_of;
 use columns::wide;
+use control::REFERENCES;
+use control::Track;
 use control::track_word;
+use kinds::EXTERNAL;
+use kinds::PARALLEL;
+use rules::ARC_ROOM;
 ghost use mathlib.Core.Path.{_≡_};
 ghost use Prim.Native.Nat.{min};
 ghost use Rattle.columns.specs.words.Columns.{look};
@@ -14,6 +21,13 @@ ghost use Rattle.rules.specs.Track.{pair};
 ghost use Rattle.control.specs.words.Views.{pairs};
 ghost use Rattle.links.specs.code.Linked as of;
 
+// A column of references: marks, labels or numbers; and two words for each reference, and two more.
+pub type Column = [u16; REFERENCES];
+
+pub const SIDE_WORDS: usize = 16388;
+
+pub type SideWords = [u16; SIDE_WORDS];
+
 // How many nodes, arcs and meetings a graph has.
 pub struct Counts {
     pub nodes: usize,
@@ -21,26 +35,22 @@ pub struct Counts {
     pub meetings: usize,
 }
 
-const REFERENCES: usize = 8193;
-
-const SIDE_WORDS: usize = 16388;
-
 // What a column of references has of one.
-pub fn reference_word(n: usize, column: &[u16; 8193]) -> usize
+pub fn reference_word(n: usize, column: &Column) -> usize
     ensures { λ r. ⌜ r ≡ words.at (now (column .entry)) n ⌝ }
 {
     if n < REFERENCES { wide(column[n]) } else { 0 }
 }
 
 // Word i of the sides.
-pub fn side_word(i: usize, sides: &[u16; 16388]) -> usize
+pub fn side_word(i: usize, sides: &SideWords) -> usize
     ensures { λ r. ⌜ r ≡ look 16388 (now (sides .entry)) i ⌝ }
 {
     if i < SIDE_WORDS { wide(sides[i]) } else { 0 }
 }
 
 // Puts word i of the sides.
-pub fn put_side_word(i: usize, value: usize, sides: &mut [u16; 16388])
+pub fn put_side_word(i: usize, value: usize, sides: &mut SideWords)
     ensures { λ _. ⌜ now (sides .exit) ≡ words.put 16388 (now (sides .entry)) i value ⌝ }
 {
     if i < SIDE_WORDS {
@@ -55,30 +65,22 @@ pub fn at_most(count: usize, room: usize) -> usize
     if count < room { count } else { room }
 }
 
-// The most arcs of a run.
-const ARCS: usize = 8192;
-
-// Kinds of terms with two sides that step on their own.
-const EXTERNAL: u8 = 4;
-
-const PARALLEL: u8 = 6;
-
 // Links the first so many arcs of a track; tells whether each one between marked references found its side free.
 pub fn link(
     arcs: usize,
-    marks: &[u16; 8193],
-    track: &[u16; 28672],
-    kinds: &[u8; 1024],
-    after: &[u16; 1024],
-    sides: &mut [u16; 16388],
+    marks: &Column,
+    track: &Track,
+    kinds: &Kinds,
+    after: &After,
+    sides: &mut SideWords,
 ) -> bool
     ensures { λ r. ⌜ r ≡ of.all-fit (now (marks .entry)) (now (kinds .entry)) (now (after .entry))
         (replicate 16388 0) (pairs 0 (now (track .entry)) 0 (min arcs 8192)) ⌝ }
     ensures { λ _. ⌜ now (sides .exit) ≡ of.linked (now (marks .entry)) (now (kinds .entry)) (now (after .entry))
         (replicate 16388 0) (pairs 0 (now (track .entry)) 0 (min arcs 8192)) ⌝ }
 {
-    *sides = [0u16; 16388];
-    let count = at_most(arcs, ARCS);
+    *sides = [0u16; SIDE_WORDS];
+    let count = at_most(arcs, ARC_ROOM);
     let mut fits = true;
     let mut i: usize = 0;
     while i < count {
@@ -97,10 +99,10 @@ pub fn link(
 fn link_arc(
     from: usize,
     to: usize,
-    marks: &[u16; 8193],
-    kinds: &[u8; 1024],
-    after: &[u16; 1024],
-    sides: &mut [u16; 16388],
+    marks: &Column,
+    kinds: &Kinds,
+    after: &After,
+    sides: &mut SideWords,
 ) -> bool
     ensures { λ r. ⌜ r ≡ (of.bare (now (marks .entry)) (now (kinds .entry)) (now (after .entry)) (pair from to)
         || of.free (now (marks .entry)) (now (kinds .entry)) (now (after .entry)) (now (sides .entry))
@@ -130,7 +132,7 @@ fn link_arc(
 }
 
 // The side that an arc leads to, by the marks of its ends; all arcs of a node with no sides lead to its second.
-fn slot_of(mark: usize, other: usize, kinds: &[u8; 1024], after: &[u16; 1024]) -> usize
+fn slot_of(mark: usize, other: usize, kinds: &Kinds, after: &After) -> usize
     ensures { λ r. ⌜ r ≡ of.slot (now (kinds .entry)) (now (after .entry)) mark other ⌝ }
 {
     if !splits(mark, kinds) {
@@ -143,7 +145,7 @@ fn slot_of(mark: usize, other: usize, kinds: &[u8; 1024], after: &[u16; 1024]) -
 }
 
 // Whether a mark is an external choice's or a parallel's.
-fn splits(mark: usize, kinds: &[u8; 1024]) -> bool
+fn splits(mark: usize, kinds: &Kinds) -> bool
     ensures { λ r. ⌜ r ≡ of.splits (now (kinds .entry)) mark ⌝ }
 {
     if mark < 2 {
@@ -160,7 +162,7 @@ fn splits(mark: usize, kinds: &[u8; 1024]) -> bool
 }
 
 // The side of a term that another one stands in; 0 where it stands in neither.
-fn side_of(term: usize, other: usize, after: &[u16; 1024]) -> usize
+fn side_of(term: usize, other: usize, after: &After) -> usize
     ensures { λ r. ⌜ r ≡ of.side-of (now (after .entry)) term other ⌝ }
 {
     if other <= term {

@@ -21,10 +21,13 @@ use Rattle.scripts.proofs.Steps.{is-step}
 use Rattle.tables.specs.Table.{Judged, judged}
 use Rattle.tables.specs.Table as Table
 use Rattle.terms.specs.Term.{Term, definitions-of}
-use Rattle.rules.specs.Process.{Event, τ, ✓, visible}
+use Rattle.rules.specs.declared.Event.{Event}
+use Rattle.rules.specs.declared.Event.the-variants.{Tau as τ, Tick as ✓, Visible as visible}
 use Rattle.rules.specs.Run.{State, start, Answer, accepted}
 use Rattle.rules.specs.Run as Run
-use Rattle.rules.specs.Offers.{Status, live, ended, stuck, status}
+use Rattle.rules.specs.declared.Status.{Status}
+use Rattle.rules.specs.declared.Status.the-variants.{Live as live, Ended as ended, Stuck as stuck}
+use Rattle.rules.specs.Offers.{status}
 use Rattle.graphs.specs.Graph.{graph-of}
 use Rattle.graphs.specs.Saved.{saved}
 use Rattle.graphs.proofs.Spelled.{line-length}

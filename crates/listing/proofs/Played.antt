@@ -4,7 +4,7 @@
 use Prim.Native.Nat.{ℕ, zero, suc, _+_, _≤_}
 use mathlib.Core.Path.{_≡_, refl, ap, _∙_}
 use mathlib.Core.Bool.{Bool, true, false}
-use mathlib.Core.List.{List, [], _∷_, map}
+use mathlib.Core.List.{List, [], _∷_}
 use mathlib.Core.Option.{Option, none, some}
 use native.Mathlib.Omega.{arith}
 use lib.ListN.{length}
@@ -17,14 +17,14 @@ use Rattle.scripts.specs.Script.{most, digits, well-formed, all-digits, in-rang
 use Rattle.scripts.specs.Script.{digits-of}
 use Rattle.scripts.specs.Script as Script
 use Rattle.terms.specs.Term.{Term}
-use Rattle.rules.specs.Process.{Event, Address}
+use Rattle.rules.specs.declared.Event.{Event}
+use Rattle.rules.specs.Process.{Address}
 use Rattle.rules.specs.Step.{Stepped, step}
 use Rattle.rules.specs.Run.{State, stands, over-room, Answer, accepted, refused}
 use Rattle.rules.specs.Run as Run
 use Rattle.plans.specs.words.Plan.{Layout}
-use Rattle.runs.specs.words.Held.{Table, Holds, told-event, told, behind}
+use Rattle.runs.specs.words.Held.{Table, Holds, told, behind}
 use Rattle.rules.specs.Addressed.{answered}
-use Rattle.runs.specs.code.Doors as run
 use Rattle.playing.specs.code.Playing as plays
 use Rattle.runs.proofs.Answering.{step-answered, step-holds}
 use Rattle.listing.specs.Listing.{Played, end-frames, line-answer, goes-on, played}
@@ -85,7 +85,7 @@ module _ (l : Layout) (p x : List ℕ) (ts : List Term) where
 
   -- what the words' lines come to is what the lines do: the same events and refusal, and words that hold the state
   pub record Agrees (z : Stopped) (r : Played) : Type 0 where
-    pub events-are : z .events ≡ map told-event (r .events)
+    pub events-are : z .events ≡ r .events
     pub stop-is : stop-text (z .number) (z .line) ≡ text (end-frames (r .end))
     pub holds : Holds l p x ts (z .nodes) (z .track) (z .counters) (r .state)
 
@@ -97,7 +97,7 @@ module _ (l : Layout) (p x : List ℕ) (ts : List Term) where
   line-agrees s next n z (accepted e t) answers rest then agrees =
       rw (answers .played-is)
       (record {
-        events-are = ap (λ es. told-event e ∷ es) (agrees .events-are);
+        events-are = ap (λ es. e ∷ es) (agrees .events-are);
         stop-is = agrees .stop-is;
         holds = agrees .holds;
       })

@@ -15,8 +15,8 @@ use Rattle.lines.specs.declared.Line.the-variants.{Found}
 use Rattle.lines.proofs.Laws.{is-line}
 use Rattle.scripts.specs.Script.{Asked, address, refused, asked, left}
 use Rattle.scripts.specs.Script as Script
-use Rattle.control.specs.declared.Event.{Event}
-use Rattle.control.specs.declared.Event.the-variants.{Tau, Tick, Visible}
+use Rattle.rules.specs.declared.Event.{Event}
+use Rattle.rules.specs.declared.Event.the-variants.{Tau, Tick, Visible}
 use Rattle.runs.specs.code.Doors as run
 use Rattle.playing.specs.code.Playing as plays
 use Rattle.runs.specs.declared.Answer.{Answer}
@@ -29,7 +29,7 @@ use Rattle.spelling.specs.Puts.{Puts}
 use Rattle.spelling.proofs.Putting.{puts-then}
 use Rattle.spelling.proofs.Spelt.{text-append}
 use Rattle.listing.specs.Listing.{script-room}
-use Rattle.telling.specs.code.Shown.{shown-step}
+use Rattle.telling.specs.ListingFrame.{step-frame}
 use Rattle.listing.specs.code.Told.{Stopped, number-of, stops, in-front, by-played, stepped, from-words}
 
 -- two lines that come to the same but for where the next one begins
@@ -159,16 +159,16 @@ module _ (p x w g c : List ℕ) (at : ℕ) where
       }
 
 -- a step's line has at most seven characters
-step-length : (e : Event) → length (text (shown-step e ∷ [])) ≤ 7
-unfolding text hex shown-step
+step-length : (e : Event) → length (text (step-frame e ∷ [])) ≤ 7
+unfolding text hex step-frame
 step-length Tau = omega arith
 step-length Tick = omega arith
 step-length (Visible e) = omega arith
 
 -- one step's line more
 steps-more : (done : List Event) (e : Event)
-    → text (map shown-step done) ++ text (shown-step e ∷ []) ≡ text (map shown-step (done ++ e ∷ []))
-steps-more done e = sym (rw map-append (text-append (map shown-step done) (shown-step e ∷ [])))
+    → text (map step-frame done) ++ text (step-frame e ∷ []) ≡ text (map step-frame (done ++ e ∷ []))
+steps-more done e = sym (rw map-append (text-append (map step-frame done) (step-frame e ∷ [])))
 
 -- events in front of what follows
 unfoldable pub after : List Event → Stopped → Stopped
@@ -190,14 +190,14 @@ after-more done e r = rw append-assoc
 abbrev pub StepsPut : Stopped → List ℕ → List ℕ → List ℕ → List ℕ → List ℕ → ℕ → ℕ → ℕ → Type 0
 StepsPut z w g c out₀ out number line end =
     (number ≡ z .number) × ((line ≡ z .line) × ((w ≡ z .nodes) × ((g ≡ z .track) × ((c ≡ z .counters)
-    × (Puts 0 (text (map shown-step (z .events))) out₀ out end × (end ≤ 7 * script-room))))))
+    × (Puts 0 (text (map step-frame (z .events))) out₀ out end × (end ≤ 7 * script-room))))))
 
 module _ (p x script w₀ g₀ c₀ out₀ : List ℕ) where
   -- what holds at each turn
   pub record Going (w g c out ds : List ℕ) (at line end : ℕ) : Type 0 where
     pub done : List Event
     pub work : from-words p x script w₀ g₀ c₀ ≡ after done (stepped p x line (lines (drop at script)) ds w g c)
-    pub put : Puts 0 (text (map shown-step done)) out₀ out end
+    pub put : Puts 0 (text (map step-frame done)) out₀ out end
     pub counted : line ≤ at + 1
     pub within : at ≤ length script
     pub ended : end ≤ 7 * at
@@ -217,7 +217,7 @@ module _ {p x script w₀ g₀ c₀ out₀ w g c out ds : List ℕ} {at line end
     (now : Going p x script w₀ g₀ c₀ out₀ w g c out ds at line end) where
   -- the slice keeps its length
   pub going-length : length out ≡ length out₀
-  going-length = ap length (now .put .stands) ∙ length-sets out₀ 0 (text (map shown-step (now .done)))
+  going-length = ap length (now .put .stands) ∙ length-sets out₀ 0 (text (map step-frame (now .done)))
 
   -- what the line at the cursor comes to, with the digits then
   abbrev here : plays.Line-played
@@ -237,7 +237,7 @@ module _ {p x script w₀ g₀ c₀ out₀ w g c out ds : List ℕ} {at line end
         let other : Other (here .played) = rw (b .0) at o in
         let stop = lines-stop p x w g c at line (lines (drop at script)) ds other in
         let low : to ≤ 7 * script-room = omega (arith, s .2, now .ended, now .within) in
-        let put : Puts 0 (text (map shown-step (now .done))) out₀ out to = rw (s .2) (now .put) in
+        let put : Puts 0 (text (map step-frame (now .done))) out₀ out to = rw (s .2) (now .put) in
         rw (now .work, stop)
         (s .0 ∙ ap number-of (b .0), (s .1, (b .1 .0, (b .1 .1 .0, (b .1 .1 .1 .0, (rw append-nil put, low))))))
 
@@ -249,7 +249,7 @@ module _ {p x script w₀ g₀ c₀ out₀ w g c out ds : List ℕ} {at line end
       pub going-on : (at < next) × (next ≤ length script)
       going-on = (went .on, went .within)
 
-      pub going-turn : {out′ : List ℕ} {to : ℕ} → Puts end (text (shown-step e ∷ [])) out out′ to
+      pub going-turn : {out′ : List ℕ} {to : ℕ} → Puts end (text (step-frame e ∷ [])) out out′ to
           → Going p x script w₀ g₀ c₀ out₀ v h k out′ es next (line + 1) to
       going-turn q = record {
         done = now .done ++ e ∷ [];

@@ -2,7 +2,7 @@
 -- do, so the events are those of the steps, the status is the control's, and the text that is saved is the track's;
 -- frame by frame they are told alike. Assumes nothing.
 use Prim.Native.Nat.{ℕ}
-use mathlib.Core.Path.{_≡_, refl, sym, ap, ap₂, _∙_}
+use mathlib.Core.Path.{_≡_, refl, sym, ap, _∙_}
 use mathlib.Core.List.{List, [], _∷_, _++_, map, append-assoc}
 use lib.ListN.{length, replicate, length-replicate}
 use lib.Dec.{leb}
@@ -12,7 +12,6 @@ use Rattle.tables.specs.Table.{Sofar, accepted, judged}
 use Rattle.tables.specs.words.Columns.{kinds, payloads, owners, afters, roots}
 use Rattle.terms.specs.Term.{Term, definitions-of}
 use Rattle.terms.proofs.Trees.{each-at, checked-trees}
-use Rattle.rules.specs.Process.{Event, τ, ✓, visible}
 use Rattle.rules.specs.Run.{State, start, Reached}
 use Rattle.rules.specs.Offers as Report
 use Rattle.rules.proofs.Stuck.{among-offers}
@@ -21,12 +20,10 @@ use Rattle.plans.specs.code.Laid.{laid-out}
 use Rattle.plans.specs.words.Layout.{layout}
 use Rattle.plans.proofs.LaidRooms.{layout-low}
 use Rattle.offers.specs.code.Offering.{status}
-use Rattle.offers.specs.words.Told.{Covers, status-of}
-use Rattle.offers.specs.declared.Status.{Status}
-use Rattle.offers.specs.declared.Status.the-variants.{Live, Ended, Stuck}
+use Rattle.offers.specs.words.Told.{Covers}
 use Rattle.offers.proofs.Runs.{run-status}
 use Rattle.counting.specs.code.Counting.{reference}
-use Rattle.runs.specs.words.Held.{Holds, told-event}
+use Rattle.runs.specs.words.Held.{Holds}
 use Rattle.runs.proofs.Starting.{start-holds}
 use Rattle.runs.proofs.Tabled.{checked-table}
 use Rattle.graphs.specs.Graph.{graph-of}
@@ -37,27 +34,8 @@ use Rattle.spelling.proofs.Spelt.{text-append}
 use Rattle.telling.specs.ListingFrame.{step-frame, status-frame, alone}
 use Rattle.listing.specs.Listing.{end-frames, Played, played, script-room, within-room, run-listing}
 use Rattle.listing.specs.Listing.{table-listing}
-use Rattle.telling.specs.code.Shown.{shown-step, shown-status}
 use Rattle.listing.specs.code.Told.{Stopped, from-start, stopped-text, run-text, script-text}
 use Rattle.listing.proofs.Played.{Agrees, stepped-agrees}
-
--- steps are shown by the answers' events as by their own
-step-shown : (e : Event) → shown-step (told-event e) ≡ step-frame e
-unfolding shown-step told-event step-frame
-step-shown τ = refl
-step-shown ✓ = refl
-step-shown (visible k) = refl
-
-steps-shown : (es : List Event) → map shown-step (map told-event es) ≡ map step-frame es
-steps-shown [] = refl
-steps-shown (e ∷ es) = ap₂ _∷_ (step-shown e) (steps-shown es)
-
--- and a status by the answer's case
-status-shown : (r : Status) → shown-status r ≡ status-frame (status-of r)
-unfolding shown-status status-frame status-of
-status-shown Live = refl
-status-shown Ended = refl
-status-shown Stuck = refl
 
 -- frames, another and more behind them, in parts
 text-parts : (fs : List (List ℕ)) (f : List ℕ) (hs : List (List ℕ))
@@ -85,10 +63,9 @@ module _ (table : List ℕ) (t : Sofar) (q : judged table ≡ accepted t) where
 
   module _ {p x w g c : List ℕ} {s : State} (held : Holds (layout t) p x ts w g c s) where
     -- the status of a run's words is its control's
-    status-told : shown-status (status p x w (reference c)) ≡ status-frame (Report.status (t .events) (s .process))
+    status-told : status-frame (status p x w (reference c)) ≡ status-frame (Report.status (t .events) (s .process))
     status-told =
-        status-shown (status p x w (reference c))
-        ∙ rw (held .tells .reference-is)
+        rw (held .tells .reference-is)
         (ap status-frame (run-status p x w (layout t) (layout-low t) (s .reference) (t .events) (s .process)
         (held .tells .controls) (run-covers (held .reached))))
 
@@ -105,7 +82,7 @@ module _ (table : List ℕ) (t : Sofar) (q : judged table ≡ accepted t) where
   unfolding stopped-text run-listing
   stopped-told p x z r agrees =
       let held = agrees .holds in
-      rw (agrees .events-are, steps-shown (r .events), agrees .stop-is, status-told held, track-told held)
+      rw (agrees .events-are, agrees .stop-is, status-told held, track-told held)
       (ap (λ told. told ++ within-room (saved (graph-of (r .state))))
       (text-parts (map step-frame (r .events)) _ (end-frames (r .end))))
 

@@ -16,8 +16,8 @@ use Rattle.tables.specs.declared.Checked.the-variants.{Accepted, Refused}
 use Rattle.tables.proofs.Whole.{answer-refuses, answer-accepts}
 use Rattle.plans.specs.code.Laid.{laid-out}
 use Rattle.offers.specs.code.Offering.{status}
-use Rattle.offers.specs.declared.Status.{Status}
-use Rattle.offers.specs.declared.Status.the-variants.{Live, Ended, Stuck}
+use Rattle.rules.specs.declared.Status.{Status}
+use Rattle.rules.specs.declared.Status.the-variants.{Live, Ended, Stuck}
 use Rattle.runs.specs.code.Doors.{fresh-nodes, fresh-track, fresh-counters}
 use Rattle.runs.specs.words.Held.{Begins}
 use Rattle.saving.specs.code.Saving.{text-of}
@@ -25,17 +25,16 @@ use Rattle.inputs.specs.Cut.{table-length, table-text}
 use Rattle.inputs.specs.Cut as Cut
 use Rattle.spelling.specs.Puts.{Puts}
 use Rattle.spelling.proofs.Putting.{puts-then}
-use Rattle.telling.specs.ListingFrame.{refusal-frame, alone}
+use Rattle.telling.specs.ListingFrame.{refusal-frame, alone, step-frame, status-frame}
 use Rattle.listing.specs.Listing.{script-room, within-room, table-listing, listing}
-use Rattle.telling.specs.code.Shown.{shown-step, shown-status}
 use Rattle.listing.specs.code.Told.{Stopped, from-words, from-start, stop-text, stopped-text, run-text}
 use Rattle.listing.specs.code.Told.{script-text}
 use Rattle.listing.proofs.Stepping.{StepsPut}
 use Rattle.listing.proofs.Told.{script-listed}
 
 -- a status's line has five characters, and a refusal's nine, where there is one
-pub status-ends : {a b : ℕ} {s t : List ℕ} (r : Status) → Puts a (text (shown-status r ∷ [])) s t b → b ≡ a + 5
-unfolding text hex shown-status
+pub status-ends : {a b : ℕ} {s t : List ℕ} (r : Status) → Puts a (text (status-frame r ∷ [])) s t b → b ≡ a + 5
+unfolding text hex status-frame
 status-ends Live q = q .ends
 status-ends Ended q = q .ends
 status-ends Stuck q = q .ends
@@ -48,8 +47,8 @@ stop-ends (suc r) n q = omega (arith, q .ends)
 module _ (p x ks os xs rs script : List ℕ) where
   -- what is told of a script that has stopped, put behind one another
   stopped-put : (z : Stopped) {out₀ out₁ out₂ out₃ out₄ : List ℕ} {a b d e : ℕ}
-      → Puts 0 (text (map shown-step (z .events))) out₀ out₁ a
-      → Puts a (text (shown-status (status p x (z .nodes) (getD (z .counters) 0 0)) ∷ [])) out₁ out₂ b
+      → Puts 0 (text (map step-frame (z .events))) out₀ out₁ a
+      → Puts a (text (status-frame (status p x (z .nodes) (getD (z .counters) 0 0)) ∷ [])) out₁ out₂ b
       → Puts b (stop-text (z .number) (z .line)) out₂ out₃ d
       → Puts d (within-room (text-of ks os xs rs (z .nodes) (z .track) (z .counters))) out₃ out₄ e
       → Puts 0 (stopped-text p x ks os xs rs z) out₀ out₄ e
@@ -67,7 +66,7 @@ module _ (p x ks os xs rs script : List ℕ) where
 
       -- then the run's listing is put
       pub run-put : {out₂ out₃ out₄ : List ℕ} {b d e n : ℕ} {r : Status} → n ≡ getD c 0 0 → r ≡ status p x w n
-          → Puts a (text (shown-status r ∷ [])) out₁ out₂ b → Puts b (stop-text number line) out₂ out₃ d
+          → Puts a (text (status-frame r ∷ [])) out₁ out₂ b → Puts b (stop-text number line) out₂ out₃ d
           → Puts d (within-room (text-of ks os xs rs w g c)) out₃ out₄ e
           → Puts 0 (run-text p x ks os xs rs script) out₀ out₄ e
       unfolding run-text

@@ -8,7 +8,7 @@ use Rattle.scripts.specs.Script.{Asked, address, asked}
 use Rattle.scripts.specs.Script as Script
 use Rattle.tables.specs.Table.{Judged, accepted, refused, judged}
 use Rattle.terms.specs.Term.{Term, definitions-of}
-use Rattle.rules.specs.Process.{Event}
+use Rattle.rules.specs.declared.Event.{Event}
 use Rattle.rules.specs.Run.{State, start, Answer}
 use Rattle.rules.specs.Run as Run
 use Rattle.rules.specs.Offers.{status}

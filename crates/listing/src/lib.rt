@@ -1,14 +1,35 @@
 // The tracking program's listing: from the bytes of an input to the bytes of its output. The table is judged whole, the
 // script is played line by line, and each accepted step, the status, the refusal that ended the script and the saved
 // track are put behind one another. It relies on the doors below for all that is told.
+use columns::After;
+use columns::Kinds;
+use columns::Owners;
+use columns::Payloads;
+use columns::Roots;
 use columns::wide;
+use control::Counters;
+use control::NODE_WORDS;
+use control::Nodes;
+use control::REFERENCES;
+use control::TRACK_WORDS;
+use control::Track;
+use counting::REFERENCE;
+use frames::DEFINITION_ROOM;
+use frames::TERM_ROOM;
 use inputs::table_end;
+use lines::SLICE_TOO_SHORT;
+use lines::TEXT_OVER_ROOM;
+use links::SIDE_WORDS;
 use offers::status_at;
+use plans::PLAN_WORDS;
+use plans::Plan;
 use plans::lay_out;
 use playing::Played;
 use playing::play;
 use runs::start;
 use saving::save;
+use scripts::DIGIT_ROOM;
+use scripts::SCRIPT_TEXT_ROOM;
 use tables::Checked;
 use tables::check;
 use telling::put_copy;
@@ -25,21 +46,10 @@ ghost use Rattle.lines.specs.Line.{text};
 ghost use Rattle.spelling.specs.Puts.{Puts};
 ghost use Rattle.saving.specs.code.Saving.{text-of};
 ghost use Rattle.listing.specs.Listing.{listing, within-room, script-room};
-ghost use Rattle.telling.specs.code.Shown.{shown-step};
+ghost use Rattle.telling.specs.ListingFrame.{step-frame};
 ghost use Rattle.listing.specs.code.Told as of;
 
-// Rooms of a script's text and of the slice that a track is saved through.
-const SCRIPT_ROOM: usize = 65536;
-
 const SAVE_ROOM: usize = 65536;
-
-// The numbers of refusal: a text over its room, and a saved text over its slice.
-const OVER_ROOM: u8 = 6;
-
-const SHORT: u8 = 12;
-
-// The counter of the reference where control stands.
-const REFERENCE: usize = 0;
 
 // Puts the listing of an input in front of a slice, as far as the slice goes, and tells how long it is. 131,086 bytes are
 // enough for any.
@@ -47,11 +57,11 @@ pub fn list(input: &[u8], out: &mut [u8]) -> usize
     ensures { λ r. ⌜ r ≡ length (listing (now (input .entry))) ⌝ }
     ensures { λ _. ⌜ now (out .exit) ≡ put (now (out .entry)) 0 (listing (now (input .entry))) ⌝ }
 {
-    let mut kinds = [0u8; 1024];
-    let mut payloads = [0u64; 1024];
-    let mut owners = [0u8; 1024];
-    let mut after = [0u16; 1024];
-    let mut roots = [0u16; 64];
+    let mut kinds = [0u8; TERM_ROOM];
+    let mut payloads = [0u64; TERM_ROOM];
+    let mut owners = [0u8; TERM_ROOM];
+    let mut after = [0u16; TERM_ROOM];
+    let mut roots = [0u16; DEFINITION_ROOM];
     let end = table_end(input);
     let checked = check(
         &input[..end],
@@ -83,20 +93,20 @@ pub fn list(input: &[u8], out: &mut [u8]) -> usize
 fn list_script(
     script: &[u8],
     terms: usize,
-    kinds: &[u8; 1024],
-    payloads: &[u64; 1024],
-    owners: &[u8; 1024],
-    after: &[u16; 1024],
-    roots: &[u16; 64],
+    kinds: &Kinds,
+    payloads: &Payloads,
+    owners: &Owners,
+    after: &After,
+    roots: &Roots,
     out: &mut [u8],
 ) -> usize
     ensures { λ r. ⌜ Puts 0 (of.script-text terms (now (kinds .entry)) (now (payloads .entry)) (now (owners .entry))
         (now (after .entry)) (now (roots .entry)) (now (script .entry))) (now (out .entry)) (now (out .exit)) r ⌝ }
 {
-    if SCRIPT_ROOM < script.len() {
-        return put_refusal(OVER_ROOM, 0, 0, out);
+    if SCRIPT_TEXT_ROOM < script.len() {
+        return put_refusal(TEXT_OVER_ROOM, 0, 0, out);
     }
-    let mut plan = [0u16; 4096];
+    let mut plan = [0u16; PLAN_WORDS];
     lay_out(terms, kinds, payloads, after, roots, &mut plan);
     list_run(script, kinds, payloads, owners, after, roots, &plan, out)
 }
@@ -104,12 +114,12 @@ fn list_script(
 // The listing of a script within its room: its steps, the status, its refusal and the track.
 fn list_run(
     script: &[u8],
-    kinds: &[u8; 1024],
-    payloads: &[u64; 1024],
-    owners: &[u8; 1024],
-    after: &[u16; 1024],
-    roots: &[u16; 64],
-    plan: &[u16; 4096],
+    kinds: &Kinds,
+    payloads: &Payloads,
+    owners: &Owners,
+    after: &After,
+    roots: &Roots,
+    plan: &Plan,
     out: &mut [u8],
 ) -> usize
     requires { ⌜ length (now script) ≤ script-room ⌝ }
@@ -117,8 +127,8 @@ fn list_run(
         (now (owners .entry)) (now (after .entry)) (now (roots .entry)) (now (script .entry)))
         (now (out .entry)) (now (out .exit)) r ⌝ }
 {
-    let mut nodes = [0u16; 65544];
-    let mut track = [0u16; 28672];
+    let mut nodes = [0u16; NODE_WORDS];
+    let mut track = [0u16; TRACK_WORDS];
     let mut counters = [0u16; 8];
     start(&mut nodes, &mut track, &mut counters);
     let stop = put_steps(
@@ -157,11 +167,11 @@ struct Stop {
 // Plays a script from its first line on, and puts each accepted step's line, up to the first that is refused.
 fn put_steps(
     script: &[u8],
-    plan: &[u16; 4096],
-    sets: &[u64; 1024],
-    nodes: &mut [u16; 65544],
-    track: &mut [u16; 28672],
-    counters: &mut [u16; 8],
+    plan: &Plan,
+    sets: &Payloads,
+    nodes: &mut Nodes,
+    track: &mut Track,
+    counters: &mut Counters,
     out: &mut [u8],
 ) -> Stop
     requires { ⌜ length (now script) ≤ script-room ⌝ }
@@ -175,12 +185,12 @@ fn put_steps(
         (now (nodes .entry)) (now (track .entry)) (now (counters .entry)) .track ⌝ }
     ensures { λ _. ⌜ now (counters .exit) ≡ of.from-words (now (plan .entry)) (now (sets .entry)) (now (script .entry))
         (now (nodes .entry)) (now (track .entry)) (now (counters .entry)) .counters ⌝ }
-    ensures { λ r. ⌜ Puts 0 (text (map shown-step (of.from-words (now (plan .entry)) (now (sets .entry))
+    ensures { λ r. ⌜ Puts 0 (text (map step-frame (of.from-words (now (plan .entry)) (now (sets .entry))
         (now (script .entry)) (now (nodes .entry)) (now (track .entry)) (now (counters .entry)) .events)))
         (now (out .entry)) (now (out .exit)) (r .end) ⌝ }
     ensures { λ r. ⌜ r .end ≤ 7 * script-room ⌝ }
 {
-    let mut digits = [0u8; 1024];
+    let mut digits = [0u8; DIGIT_ROOM];
     let mut at = 0;
     let mut line: usize = 1;
     let mut end = 0;
@@ -227,13 +237,13 @@ fn put_stop(number: u8, line: usize, at: usize, out: &mut [u8]) -> usize
 
 // Puts a run's saved track, or the refusal 12 where it passes its room.
 fn put_track(
-    kinds: &[u8; 1024],
-    owners: &[u8; 1024],
-    after: &[u16; 1024],
-    roots: &[u16; 64],
-    nodes: &[u16; 65544],
-    track: &[u16; 28672],
-    counters: &[u16; 8],
+    kinds: &Kinds,
+    owners: &Owners,
+    after: &After,
+    roots: &Roots,
+    nodes: &Nodes,
+    track: &Track,
+    counters: &Counters,
     at: usize,
     out: &mut [u8],
 ) -> usize
@@ -242,13 +252,13 @@ fn put_track(
         (now (roots .entry)) (now (nodes .entry)) (now (track .entry)) (now (counters .entry))))
         (now (out .entry)) (now (out .exit)) r ⌝ }
 {
-    let mut labels = [0u16; 8193];
-    let mut graph = [0u16; 28672];
-    let mut marks = [0u16; 8193];
-    let mut sides = [0u16; 16388];
-    let mut pending = [0u16; 16388];
-    let mut numbers = [0u16; 8193];
-    let mut spare = [0u16; 28672];
+    let mut labels = [0u16; REFERENCES];
+    let mut graph = [0u16; TRACK_WORDS];
+    let mut marks = [0u16; REFERENCES];
+    let mut sides = [0u16; SIDE_WORDS];
+    let mut pending = [0u16; SIDE_WORDS];
+    let mut numbers = [0u16; REFERENCES];
+    let mut spare = [0u16; TRACK_WORDS];
     let mut saved_text = [0u8; SAVE_ROOM];
     let saved = save(
         kinds,
@@ -268,7 +278,7 @@ fn put_track(
         &mut saved_text,
     );
     match saved {
-        Saved::Short(_) => put_refusal(SHORT, 0, at, out),
+        Saved::Short(_) => put_refusal(SLICE_TOO_SHORT, 0, at, out),
         Saved::Written(length) => put_copy(&saved_text, length, at, out),
     }
 }

@@ -1,38 +1,38 @@
 // What a step looks up on its way: a digit, the side that it names, a split's set and frame, and the parents of two ended
 // sides. Nothing is written. It relies on the plan of the table and the words of the run.
+use columns::Payloads;
+use control::Track;
 use control::track_word;
+use frames::TERM_ROOM;
+use numbers::wide;
+use plans::EXTERNAL_WORD;
+use plans::PARALLEL_WORD;
+use plans::Plan;
 use plans::around_of;
+use rules::ARC_ROOM;
+use scripts::DIGIT_ROOM;
+use scripts::Digits;
 ghost use mathlib.Core.Path.{_≡_};
 ghost use Rattle.looking.specs.code.Looking as spec;
 
-const EXTERNAL: usize = 4;
-
-const PARALLEL: usize = 6;
-
-const DIGITS: usize = 1024;
-
-const TERMS: usize = 1024;
-
-const ARC_ROOM: usize = 8192;
-
 // The digit at a place of an address, 0 behind its last.
-pub fn digit_at(at: usize, count: usize, digits: &[u8; 1024]) -> usize
+pub fn digit_at(at: usize, count: usize, digits: &Digits) -> usize
     ensures { λ r. ⌜ r ≡ spec.digit-at (now (digits .entry)) count at ⌝ }
 {
     if count <= at {
         return 0;
     }
-    if at < DIGITS { wide(digits[at]) } else { 0 }
+    if at < DIGIT_ROOM { wide(digits[at]) } else { 0 }
 }
 
 // An external choice or a parallel.
 pub fn is_split(kind: usize) -> bool
     ensures { λ r. ⌜ r ≡ spec.is-split kind ⌝ }
 {
-    if kind == EXTERNAL {
+    if kind == EXTERNAL_WORD {
         return true;
     }
-    kind == PARALLEL
+    kind == PARALLEL_WORD
 }
 
 // A digit that names a side, or both.
@@ -63,14 +63,14 @@ pub fn is_within(nested: bool, around: usize) -> bool
 }
 
 // The set of a term.
-pub fn set_of(t: usize, sets: &[u64; 1024]) -> u64
+pub fn set_of(t: usize, sets: &Payloads) -> u64
     ensures { λ r. ⌜ r ≡ spec.set-of (now (sets .entry)) t ⌝ }
 {
-    if t < TERMS { sets[t] } else { 0 }
+    if t < TERM_ROOM { sets[t] } else { 0 }
 }
 
 // The frame of what is called or chosen inside a term: its reference where a sequence is around the term.
-pub fn beyond(t: usize, n: usize, frame: usize, plan: &[u16; 4096]) -> usize
+pub fn beyond(t: usize, n: usize, frame: usize, plan: &Plan) -> usize
     ensures { λ r. ⌜ r ≡ spec.beyond (now (plan .entry)) t n frame ⌝ }
 {
     let around = around_of(t, plan);
@@ -78,17 +78,17 @@ pub fn beyond(t: usize, n: usize, frame: usize, plan: &[u16; 4096]) -> usize
 }
 
 // The frame that ends the sequences of a split's sides.
-pub fn inside_of(kind: usize, t: usize, n: usize, frame: usize, plan: &[u16; 4096]) -> usize
+pub fn inside_of(kind: usize, t: usize, n: usize, frame: usize, plan: &Plan) -> usize
     ensures { λ r. ⌜ r ≡ spec.inside (now (plan .entry)) kind t n frame ⌝ }
 {
-    if kind == PARALLEL {
+    if kind == PARALLEL_WORD {
         return n;
     }
     beyond(t, n, frame, plan)
 }
 
 // How many of the first arcs lead to one of two references.
-pub fn parents(first: usize, second: usize, arcs: usize, track: &[u16; 28672]) -> usize
+pub fn parents(first: usize, second: usize, arcs: usize, track: &Track) -> usize
     ensures { λ r. ⌜ r ≡ spec.parents (now (track .entry)) first second 0 arcs ⌝ }
 {
     let mut found: usize = 0;
@@ -113,10 +113,4 @@ pub fn leads(to: usize, first: usize, second: usize) -> bool
         return true;
     }
     to == second
-}
-
-fn wide(x: u8) -> usize
-    ensures { λ r. ⌜ r ≡ x ⌝ }
-{
-    x as usize
 }

@@ -1,9 +1,20 @@
 // A track's graph by the numbers of the walk: the walk numbers the nodes, and marks, arcs and meetings go to columns by
 // those numbers, arcs and meetings sorted.
+use columns::After;
+use columns::Kinds;
+use control::MEETINGS_FROM;
+use control::REFERENCES;
+use control::TRACK_WORDS;
+use control::Track;
+use links::Column;
 use links::Counts;
+use links::SIDE_WORDS;
+use links::SideWords;
 use links::at_most;
 use links::link;
 use pairing::renumber;
+use rules::ARC_ROOM;
+use rules::MEETING_ROOM;
 use sorting::sort;
 use walks::walk;
 ghost use mathlib.Core.Path.{_≡_};
@@ -16,29 +27,21 @@ ghost use Rattle.pairing.specs.code.Renumbered.{renumbered};
 ghost use Rattle.sorting.specs.code.Sorted.{sorted};
 ghost use Rattle.numbering.specs.code.Numbered as of;
 
-// Rooms of a run.
-const ARCS: usize = 8192;
-
-const MEETINGS: usize = 4096;
-
-// Where the meetings begin in a track.
-const MEETINGS_FROM: usize = 16384;
-
 // Numbers the graph of a track with so many arcs and meetings, whose references have these marks: its marks by number go to
 // `labels`, its arcs and meetings to `graph`. The other four are scratch, and all 0 afterwards.
 pub fn number(
     arcs: usize,
     meetings: usize,
-    marks: &[u16; 8193],
-    track: &[u16; 28672],
-    kinds: &[u8; 1024],
-    after: &[u16; 1024],
-    labels: &mut [u16; 8193],
-    graph: &mut [u16; 28672],
-    sides: &mut [u16; 16388],
-    pending: &mut [u16; 16388],
-    numbers: &mut [u16; 8193],
-    spare: &mut [u16; 28672],
+    marks: &Column,
+    track: &Track,
+    kinds: &Kinds,
+    after: &After,
+    labels: &mut Column,
+    graph: &mut Track,
+    sides: &mut SideWords,
+    pending: &mut SideWords,
+    numbers: &mut Column,
+    spare: &mut Track,
 ) -> Counts
     ensures { λ r. ⌜ (r .nodes ≡ length (of.order-by (now (marks .entry)) (now (kinds .entry)) (now (after .entry))
         (now (track .entry)) arcs meetings))
@@ -57,12 +60,12 @@ pub fn number(
 {
     link(arcs, marks, track, kinds, after, sides);
     let nodes = walk(marks, sides, numbers, labels, pending);
-    *graph = [0u16; 28672];
-    *spare = [0u16; 28672];
+    *graph = [0u16; TRACK_WORDS];
+    *spare = [0u16; TRACK_WORDS];
     let arcs_out = number_pairs(
         nodes,
         0,
-        at_most(arcs, ARCS),
+        at_most(arcs, ARC_ROOM),
         false,
         track,
         numbers,
@@ -73,7 +76,7 @@ pub fn number(
     let meetings_out = number_pairs(
         nodes,
         MEETINGS_FROM,
-        at_most(meetings, MEETINGS),
+        at_most(meetings, MEETING_ROOM),
         true,
         track,
         numbers,
@@ -81,10 +84,10 @@ pub fn number(
         spare,
         pending,
     );
-    *sides = [0u16; 16388];
-    *pending = [0u16; 16388];
-    *numbers = [0u16; 8193];
-    *spare = [0u16; 28672];
+    *sides = [0u16; SIDE_WORDS];
+    *pending = [0u16; SIDE_WORDS];
+    *numbers = [0u16; REFERENCES];
+    *spare = [0u16; TRACK_WORDS];
     Counts {
         nodes,
         arcs: arcs_out,
@@ -99,11 +102,11 @@ fn number_pairs(
     base: usize,
     count: usize,
     either: bool,
-    track: &[u16; 28672],
-    numbers: &[u16; 8193],
-    graph: &mut [u16; 28672],
-    spare: &mut [u16; 28672],
-    starts: &mut [u16; 16388],
+    track: &Track,
+    numbers: &Column,
+    graph: &mut Track,
+    spare: &mut Track,
+    starts: &mut SideWords,
 ) -> usize
     requires { ⌜ (nodes ≤ 8193) × (count ≤ 8192) × (base + 2 * count ≤ 28672) ⌝ }
     requires { ⌜ (length (now graph) ≡ 28672) × (length (now spare) ≡ 28672) ⌝ }

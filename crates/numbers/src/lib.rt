@@ -65,10 +65,11 @@ pub fn byte_at(chars: &[u8], k: usize) -> usize
     ensures { λ r. ⌜ r ≡ byteAt (now (chars .entry)) k ⌝ }
     ensures { λ r. ⌜ r < 256 ⌝ }
 {
-    widened(byte(chars, k))
+    wide(byte(chars, k))
 }
 
-fn widened(x: u8) -> usize
+// A byte as a number.
+pub fn wide(x: u8) -> usize
     ensures { λ r. ⌜ r ≡ x ⌝ }
     ensures { λ r. ⌜ r < 256 ⌝ }
 {

@@ -19,7 +19,7 @@ use Rattle.control.specs.words.Control.{state, term, frame, first, second-side,
 use Rattle.sets.specs.Told.{SetOf, shown}
 use Rattle.sets.proofs.Bits.{none-in-zero}
 use Rattle.offers.specs.declared.Offered.{Offered}
-use Rattle.offers.specs.declared.Status.the-variants.{Live, Ended, Stuck}
+use Rattle.rules.specs.declared.Status.the-variants.{Live, Ended, Stuck}
 use Rattle.offers.specs.code.Offering.{Offer, seen, unseen, own, settled, combined, by-kind, first-of}
 use Rattle.offers.specs.code.Offering.{of-term, levels, followed, bound, ended, by-state, at, offered}
 use Rattle.offers.specs.code.Offering.{some-of, standing, status}

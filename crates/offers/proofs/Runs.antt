@@ -8,7 +8,6 @@ use mathlib.Core.List.{List, []}
 use native.Mathlib.Omega.{arith}
 use lib.Dec.{eqb}
 use borrow.Author.Tests.{ne-eqb, eqb-true, eqb-false}
-use Rattle.lines.specs.Line.{choose}
 use Rattle.frames.specs.TableFrame.{event-room}
 use Rattle.rules.specs.Process.{Process}
 use Rattle.rules.specs.Run.{cell-room}
@@ -18,10 +17,9 @@ use Rattle.rules.specs.Offers as Report
 use Rattle.plans.specs.words.Plan.{Layout}
 use Rattle.sets.proofs.Told.{same-members}
 use Rattle.offers.specs.declared.Offered.{Offered}
-use Rattle.offers.specs.declared.Status.{Status}
-use Rattle.offers.specs.declared.Status.the-variants.{Live, Ended, Stuck}
+use Rattle.rules.specs.declared.Status.{Status}
 use Rattle.offers.specs.code.Offering.{Offer, seen, settled, ended, offered, some-of, standing, status}
-use Rattle.offers.specs.words.Told.{offer-of, Low, Controls, starts, stands, Tells, Covers, status-of}
+use Rattle.offers.specs.words.Told.{offer-of, Low, Controls, starts, stands, Tells, Covers}
 use Rattle.offers.proofs.Returns.{ended-not}
 use Rattle.offers.proofs.Standing.{nested, beyond-bound, ended-told, offers-told}
 
@@ -73,21 +71,15 @@ covered e (suc n) test below h = go (eqb e (suc n)) refl (covered e n test below
 
 -- the status of a control by its offers
 standing-told : (e : ℕ) (P : Process) → Covers e P
-    → status-of (standing (at-Ω P) (offer-of P)) ≡ Report.status e P
-unfolding standing Report.status status-of
+    → standing (at-Ω P) (offer-of P) ≡ Report.status e P
+unfolding standing Report.status
 standing-told e P h =
     let some = covered e event-room (λ k. offers-event k P) (h .all-below) (h .in-room) ∙ some-told e P in
-    rw some (go (at-Ω P) (offers-τ P || (offers-✓ P || offers-some e P)))
-  where
-    go : (b c : Bool) → status-of (choose b Ended (choose c Live Stuck))
-        ≡ choose b Report.ended (choose c Report.live Report.stuck)
-    go true c = refl
-    go false true = refl
-    go false false = refl
+    rw some
 
 module _ (p x w : List ℕ) where
   pub run-status : (l : Layout) → Low l → (n e : ℕ) (P : Process) → Controls l p x w n P → Covers e P
-      → status-of (status p x w n) ≡ Report.status e P
+      → status p x w n ≡ Report.status e P
   unfolding status
   run-status l low n e P c h =
       rw (run-ended l p x w low n P c, run-offers l p x w low n P c) (standing-told e P h)
@@ -95,8 +87,8 @@ module _ (p x w : List ℕ) where
   -- the promises of a status
   pub promised : (n : ℕ) (r : Status) → r ≡ status p x w n → (r ≡ status p x w n)
       × ((l : Layout) (P : Process) (e : ℕ) → Low l → Controls l p x w n P → Covers e P
-      → status-of r ≡ Report.status e P)
-  promised n r h = (h, λ l P e low c v. ap status-of h ∙ run-status l low n e P c v)
+      → r ≡ Report.status e P)
+  promised n r h = (h, λ l P e low c v. h ∙ run-status l low n e P c v)
 
 -- what is told allows one answer only
 same-parts : (a b c d : Bool) (m n : ℕ) → a ≡ b → c ≡ d → m ≡ n

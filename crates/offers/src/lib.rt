@@ -1,17 +1,30 @@
 // What a run offers, and its status: the events that its control has derivations for, by following the control
 // and the terms below it downward. Nothing is written. It relies on the plan of the table, the words of the run
 // and sets of events.
+use columns::Payloads;
 use control::ENTERED;
+use control::FIRST_SIDE;
 use control::FRAME;
+use control::Nodes;
 use control::OMEGA;
+use control::SECOND_SIDE;
 use control::STATE;
 use control::TERM;
 use control::UNTOUCHED;
 use control::word;
+use frames::TERM_ROOM;
+use plans::EXTERNAL_WORD;
+use plans::PARALLEL_WORD;
+use plans::PREFIX_WORD;
+use plans::Plan;
+use plans::SEQUENCE_WORD;
+use plans::SKIP_WORD;
 use plans::around_of;
 use plans::kind_of;
 use plans::operand_of;
 use plans::second_of;
+use rules::CELL_ROOM;
+use rules::Status;
 use sets::either;
 use sets::empty;
 use sets::only;
@@ -26,7 +39,7 @@ ghost use Rattle.rules.specs.Offers.{status};
 ghost use Rattle.plans.specs.words.Plan.{Layout};
 ghost use Rattle.offers.specs.code.Offering as code;
 ghost use Rattle.offers.specs.code.Offering.{seen};
-ghost use Rattle.offers.specs.words.Told.{Low, Controls, Tells, Covers, status-of};
+ghost use Rattle.offers.specs.words.Told.{Low, Controls, Tells, Covers};
 
 // Whether τ and ✓ are offered, and which events.
 pub struct Offered {
@@ -35,45 +48,11 @@ pub struct Offered {
     pub events: u64,
 }
 
-// Ended at Ω, stuck where nothing is offered, and else live.
-pub enum Status {
-    Live,
-    Ended,
-    Stuck,
-}
-
-// The kinds that offers go by.
-const PREFIX: usize = 2;
-
-const EXTERNAL: usize = 4;
-
-const SEQUENCE: usize = 5;
-
-const PARALLEL: usize = 6;
-
-const SKIP: usize = 7;
-
-const TERMS: usize = 1024;
-
-// The words of the sides' references.
-const FIRST: usize = 4;
-
-const SECOND: usize = 5;
-
 // A path has at most 64 digits, so a term has at most 65 levels.
-const LEVELS: usize = 65;
-
-// A control has at most 1,024 cells, so it has at most as many levels. Calls are then at most 1,089 deep with a
-// few hundred bytes each, which the stack has room for.
-const CELLS: usize = 1024;
+const OFFER_LEVELS: usize = 65;
 
 // What a run at a reference offers.
-pub fn offers(
-    reference: usize,
-    plan: &[u16; 4096],
-    sets: &[u64; 1024],
-    nodes: &[u16; 65544],
-) -> Offered
+pub fn offers(reference: usize, plan: &Plan, sets: &Payloads, nodes: &Nodes) -> Offered
     ensures { λ r. ⌜ seen r ≡
         code.offered (now (plan .entry)) (now (sets .entry)) (now (nodes .entry)) reference ⌝ }
     ensures { λ r. ⌜ ((l : Layout) (P : Process) → Low l
@@ -82,21 +61,16 @@ pub fn offers(
     if reference == 0 {
         return unseen(true, false);
     }
-    offers_at(reference, 0, 0, CELLS, plan, sets, nodes)
+    offers_at(reference, 0, 0, CELL_ROOM, plan, sets, nodes)
 }
 
 // The status of a run at a reference.
-pub fn status_at(
-    reference: usize,
-    plan: &[u16; 4096],
-    sets: &[u64; 1024],
-    nodes: &[u16; 65544],
-) -> Status
+pub fn status_at(reference: usize, plan: &Plan, sets: &Payloads, nodes: &Nodes) -> Status
     ensures { λ r. ⌜ r ≡ code.status
         (now (plan .entry)) (now (sets .entry)) (now (nodes .entry)) reference ⌝ }
     ensures { λ r. ⌜ ((l : Layout) (P : Process) (e : ℕ) → Low l
         → Controls l (now (plan .entry)) (now (sets .entry)) (now (nodes .entry)) reference P
-        → Covers e P → status-of r ≡ status e P) ⌝ }
+        → Covers e P → r ≡ status e P) ⌝ }
 {
     if ended(reference, nodes) {
         return Status::Ended;
@@ -121,9 +95,9 @@ fn offers_at(
     t: usize,
     bound: usize,
     left: usize,
-    plan: &[u16; 4096],
-    sets: &[u64; 1024],
-    nodes: &[u16; 65544],
+    plan: &Plan,
+    sets: &Payloads,
+    nodes: &Nodes,
 ) -> Offered
     ensures { λ r. ⌜ seen r ≡
         code.at left (now (plan .entry)) (now (sets .entry)) (now (nodes .entry)) n t bound ⌝ }
@@ -132,7 +106,7 @@ fn offers_at(
         return unseen(false, false);
     }
     if n == 0 {
-        return offers_of_term(t, LEVELS, plan, sets);
+        return offers_of_term(t, OFFER_LEVELS, plan, sets);
     }
     let state = word(n, STATE, nodes);
     if ENTERED < state {
@@ -141,11 +115,11 @@ fn offers_at(
     let term = word(n, TERM, nodes);
     let nested = followed(n, term, bound, plan, nodes);
     if state == UNTOUCHED {
-        return settled(nested, offers_of_term(term, LEVELS, plan, sets));
+        return settled(nested, offers_of_term(term, OFFER_LEVELS, plan, sets));
     }
     let within = inside(n, term, plan, nodes);
-    let first = word(n, FIRST, nodes);
-    let second = word(n, SECOND, nodes);
+    let first = word(n, FIRST_SIDE, nodes);
+    let second = word(n, SECOND_SIDE, nodes);
     let l = offers_at(first, first_of(term), within, left - 1, plan, sets, nodes);
     let r = offers_at(
         second,
@@ -164,21 +138,21 @@ fn offers_at(
 }
 
 // What a term that no step has touched offers.
-fn offers_of_term(t: usize, left: usize, plan: &[u16; 4096], sets: &[u64; 1024]) -> Offered
+fn offers_of_term(t: usize, left: usize, plan: &Plan, sets: &Payloads) -> Offered
     ensures { λ r. ⌜ seen r ≡ code.of-term left (now (plan .entry)) (now (sets .entry)) t ⌝ }
 {
     if left == 0 {
         return unseen(false, false);
     }
     let kind = kind_of(t, plan);
-    if kind < EXTERNAL {
+    if kind < EXTERNAL_WORD {
         return own(kind, operand_of(t, plan));
     }
-    if PARALLEL < kind {
+    if PARALLEL_WORD < kind {
         return own(kind, operand_of(t, plan));
     }
     let l = offers_of_term(first_of(t), left - 1, plan, sets);
-    if kind == SEQUENCE {
+    if kind == SEQUENCE_WORD {
         return settled(true, l);
     }
     let r = offers_of_term(second_of(t, plan), left - 1, plan, sets);
@@ -189,14 +163,14 @@ fn offers_of_term(t: usize, left: usize, plan: &[u16; 4096], sets: &[u64; 1024])
 fn own(kind: usize, operand: usize) -> Offered
     ensures { λ r. ⌜ seen r ≡ code.own kind operand ⌝ }
 {
-    if kind == PREFIX {
+    if kind == PREFIX_WORD {
         return Offered {
             tau: false,
             tick: false,
             events: only((operand % 256) as u8),
         };
     }
-    if kind == SKIP {
+    if kind == SKIP_WORD {
         return unseen(false, true);
     }
     unseen(true, false)
@@ -207,7 +181,7 @@ fn own(kind: usize, operand: usize) -> Offered
 fn combined(kind: usize, set: u64, both: bool, l: Offered, r: Offered) -> Offered
     ensures { λ o. ⌜ seen o ≡ code.combined kind set both (seen l) (seen r) ⌝ }
 {
-    if kind == PARALLEL {
+    if kind == PARALLEL_WORD {
         return Offered {
             tau: (l.tau | l.tick) | (r.tau | r.tick),
             tick: both,
@@ -247,7 +221,7 @@ fn unseen(tau: bool, tick: bool) -> Offered
 }
 
 // Whether a sequence is around the term that stands at reference n, up to a bound.
-fn followed(n: usize, term: usize, bound: usize, plan: &[u16; 4096], nodes: &[u16; 65544]) -> bool
+fn followed(n: usize, term: usize, bound: usize, plan: &Plan, nodes: &Nodes) -> bool
     ensures { λ r. ⌜ r ≡ code.followed (now (plan .entry)) (now (nodes .entry)) n term bound ⌝ }
 {
     if around_of(term, plan) != 0 {
@@ -257,10 +231,10 @@ fn followed(n: usize, term: usize, bound: usize, plan: &[u16; 4096], nodes: &[u1
 }
 
 // The bound of the sides of the choice or parallel that stands at reference n.
-fn inside(n: usize, term: usize, plan: &[u16; 4096], nodes: &[u16; 65544]) -> usize
+fn inside(n: usize, term: usize, plan: &Plan, nodes: &Nodes) -> usize
     ensures { λ r. ⌜ r ≡ code.bound (now (plan .entry)) (now (nodes .entry)) n term ⌝ }
 {
-    if kind_of(term, plan) == PARALLEL {
+    if kind_of(term, plan) == PARALLEL_WORD {
         return n;
     }
     if around_of(term, plan) != 0 {
@@ -270,7 +244,7 @@ fn inside(n: usize, term: usize, plan: &[u16; 4096], nodes: &[u16; 65544]) -> us
 }
 
 // Whether both sides are at Ω.
-fn both_ended(first: usize, second: usize, nodes: &[u16; 65544]) -> bool
+fn both_ended(first: usize, second: usize, nodes: &Nodes) -> bool
     ensures { λ r. ⌜ r ≡ code.ended (now (nodes .entry)) first && code.ended (now (nodes .entry)) second ⌝ }
 {
     if ended(first, nodes) {
@@ -280,7 +254,7 @@ fn both_ended(first: usize, second: usize, nodes: &[u16; 65544]) -> bool
 }
 
 // Whether what stands at a reference is Ω.
-fn ended(n: usize, nodes: &[u16; 65544]) -> bool
+fn ended(n: usize, nodes: &Nodes) -> bool
     ensures { λ r. ⌜ r ≡ code.ended (now (nodes .entry)) n ⌝ }
 {
     if n == 0 {
@@ -293,12 +267,12 @@ fn ended(n: usize, nodes: &[u16; 65544]) -> bool
 fn first_of(t: usize) -> usize
     ensures { λ r. ⌜ r ≡ code.first-of t ⌝ }
 {
-    if t < TERMS { t + 1 } else { 0 }
+    if t < TERM_ROOM { t + 1 } else { 0 }
 }
 
 // A term's set.
-fn set_of(t: usize, sets: &[u64; 1024]) -> u64
+fn set_of(t: usize, sets: &Payloads) -> u64
     ensures { λ r. ⌜ r ≡ look term-room (now (sets .entry)) t ⌝ }
 {
-    if t < TERMS { sets[t] } else { 0 }
+    if t < TERM_ROOM { sets[t] } else { 0 }
 }

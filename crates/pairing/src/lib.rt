@@ -1,5 +1,8 @@
 // Pairs of references by their numbers.
+use control::REFERENCES;
+use control::Track;
 use control::track_word;
+use links::Column;
 ghost use mathlib.Core.Path.{_≡_};
 ghost use Prim.Native.Nat.{_+_, _*_, _≤_};
 ghost use lib.ListN.{length};
@@ -8,17 +11,15 @@ ghost use Rattle.control.specs.words.Views.{pairs};
 ghost use Rattle.links.specs.words.Columns.{at, flat};
 ghost use Rattle.pairing.specs.code.Renumbered as of;
 
-const REFERENCES: usize = 8193;
-
 // Puts the numbers of so many pairs of a track, from a word on, to the same words of another, those whose two ends have
 // numbers; the lower one first where either order will do. Tells how many there are.
 pub fn renumber(
     base: usize,
     count: usize,
     either: bool,
-    track: &[u16; 28672],
-    numbers: &[u16; 8193],
-    to: &mut [u16; 28672],
+    track: &Track,
+    numbers: &Column,
+    to: &mut Track,
 ) -> usize
     requires { ⌜ base + 2 * count ≤ 28672 ⌝ }
     ensures { λ r. ⌜ r ≡ length (of.renumbered either (now (numbers .entry)) (pairs base (now (track .entry)) 0 count)) ⌝ }
@@ -38,21 +39,14 @@ pub fn renumber(
 }
 
 // One more than the number of a reference, 0 where it has none.
-fn number_of(n: usize, numbers: &[u16; 8193]) -> u16
+fn number_of(n: usize, numbers: &Column) -> u16
     ensures { λ r. ⌜ r ≡ at (now (numbers .entry)) n ⌝ }
 {
     if n < REFERENCES { numbers[n] } else { 0 }
 }
 
 // Puts a pair of numbers, by one more than each, where both ends have one.
-fn keep(
-    first: u16,
-    second: u16,
-    either: bool,
-    at: usize,
-    kept: usize,
-    to: &mut [u16; 28672],
-) -> usize
+fn keep(first: u16, second: u16, either: bool, at: usize, kept: usize, to: &mut Track) -> usize
     requires { ⌜ (at + 2 ≤ 28672) × (kept ≤ 28672) ⌝ }
     ensures { λ r. ⌜ r ≡ kept + length (of.renumbered-one either first second) ⌝ }
     ensures { λ _. ⌜ now (to .exit) ≡ sets (now (to .entry)) at (flat (of.renumbered-one either first second)) ⌝ }

@@ -1,14 +1,30 @@
 // The lines of a saved track read into columns: line 1, its nodes, its pairs and its last line. Each line is judged as it
 // comes, a node's place becomes its mark, and a pair's numbers go to the words of a track. It relies on the line finder and
 // on the mark of a node's line.
+use columns::After;
+use columns::Kinds;
+use columns::Roots;
+use control::Track;
 use finding::mark_of;
+use frames::PATH_ROOM;
+use graphs::NODE_FRAME;
+use graphs::TRACK_EDITION;
+use graphs::TRACK_END_FRAME;
+use graphs::TRACK_FRAME;
 use lines::Line;
+use lines::NO_LINE;
+use lines::OUT_OF_RANGE;
+use lines::WRONG_FRAME;
 use lines::characters;
 use lines::next_line;
 use lines::refusal_of;
+use links::Column;
 use numbers::byte;
 use numbers::byte_at;
 use numbers::number_at;
+use rules::ARC_ROOM;
+use rules::MEETING_ROOM;
+use rules::NODE_ROOM;
 ghost use mathlib.Core.Path.{_≡_};
 ghost use mathlib.Core.Bool.{_&&_, not};
 ghost use mathlib.Core.List.{List};
@@ -37,34 +53,8 @@ pub enum Lines {
     Stops { number: u8, line: usize },
 }
 
-// Rooms of a run.
-const NODES: usize = 4096;
-
-const ARCS: usize = 8192;
-
-const MEETINGS: usize = 4096;
-
-// The most digits of a path.
-const PATH: usize = 64;
-
-// First bytes of frames.
-const OPENING: u8 = 48;
-
-const NODE: u8 = 49;
-
-const LAST: u8 = 63;
-
-const EDITION: u8 = 1;
-
 // How many bytes stand before a node's path.
 const NODE_HEAD: usize = 5;
-
-// Numbers of refusals: not a line; wrong frame or length; a number outside its range.
-const NO_LINE: u8 = 1;
-
-const WRONG_FRAME: u8 = 2;
-
-const OUT_OF_RANGE: u8 = 3;
 
 // Reads line 1.
 pub fn first_line(text: &[u8]) -> Opened
@@ -78,7 +68,7 @@ pub fn first_line(text: &[u8]) -> Opened
     if chars.len() != 16 {
         return Opened::Fails(WRONG_FRAME);
     }
-    if byte(chars, 0) != OPENING {
+    if byte(chars, 0) != TRACK_FRAME {
         return Opened::Fails(WRONG_FRAME);
     }
     let nodes = number_at(chars, 2);
@@ -99,16 +89,16 @@ pub fn first_line(text: &[u8]) -> Opened
 fn counts_outside(edition: u8, nodes: usize, arcs: usize, meetings: usize) -> bool
     ensures { λ r. ⌜ r ≡ not (eqb edition 1 && (leb nodes 4096 && (leb arcs 8192 && leb meetings 4096))) ⌝ }
 {
-    if edition != EDITION {
+    if edition != TRACK_EDITION {
         return true;
     }
-    if NODES < nodes {
+    if NODE_ROOM < nodes {
         return true;
     }
-    if ARCS < arcs {
+    if ARC_ROOM < arcs {
         return true;
     }
-    if MEETINGS < meetings {
+    if MEETING_ROOM < meetings {
         return true;
     }
     false
@@ -120,10 +110,10 @@ pub fn read_nodes(
     from: usize,
     count: usize,
     definitions: usize,
-    kinds: &[u8; 1024],
-    after: &[u16; 1024],
-    roots: &[u16; 64],
-    labels: &mut [u16; 8193],
+    kinds: &Kinds,
+    after: &After,
+    roots: &Roots,
+    labels: &mut Column,
 ) -> Lines
     requires { ⌜ count ≤ 4096 ⌝ }
     ensures { λ r. ⌜ of.NodesTold (now (text .entry)) definitions count (now (kinds .entry)) (now (after .entry))
@@ -160,14 +150,14 @@ fn node_refusal(chars: &[u8], definitions: usize) -> u8
         → (n : ℕ) → r ≡ refusal definitions n a-node (frame-of bs)) ⌝ }
 {
     let count = chars.len() / 2;
-    if byte(chars, 0) != NODE {
+    if byte(chars, 0) != NODE_FRAME {
         return WRONG_FRAME;
     }
     let length = byte_at(chars, 4);
     if count != length + NODE_HEAD {
         return WRONG_FRAME;
     }
-    if PATH < length {
+    if PATH_ROOM < length {
         return OUT_OF_RANGE;
     }
     if definitions <= byte_at(chars, 3) {
@@ -186,7 +176,7 @@ pub fn read_pairs(
     first: usize,
     count: usize,
     nodes: usize,
-    graph: &mut [u16; 28672],
+    graph: &mut Track,
 ) -> Lines
     requires { ⌜ (count ≤ 8192) × (base + 2 * count ≤ 28672) × (first ≤ 20000) × ((code ≡ 50) ⊎ (code ≡ 51)) ⌝ }
     ensures { λ r. ⌜ ((d : ℕ) → of.PairsTold (now (text .entry)) d nodes code base count from first
@@ -259,7 +249,7 @@ pub fn last_lines(text: &[u8], at: usize, line: usize) -> Lines
             line,
         };
     }
-    if byte(chars, 0) != LAST {
+    if byte(chars, 0) != TRACK_END_FRAME {
         return Lines::Stops {
             number: WRONG_FRAME,
             line,

@@ -1,6 +1,11 @@
 // Following terms downward: from a term to one of its subterms, a digit a step.
+use crate::Path;
 use crate::Reached;
 use crate::Step;
+use columns::After;
+use columns::Kinds;
+use columns::after_of;
+use columns::kind_of;
 use kinds::subterms;
 ghost use mathlib.Core.Path.{_≡_};
 ghost use Prim.Native.Nat.{_-_, _≤_, _<_};
@@ -16,9 +21,9 @@ pub fn descend(
     to: usize,
     depth: usize,
     most: usize,
-    kinds: &[u8; 1024],
-    after: &[u16; 1024],
-    path: &mut [u8; 64],
+    kinds: &Kinds,
+    after: &After,
+    path: &mut Path,
 ) -> Reached
     requires { ⌜ (depth ≤ most) × (most ≤ 64) ⌝ }
     ensures { λ r. ⌜ r ≡ reached depth
@@ -32,7 +37,7 @@ pub fn descend(
     if most <= depth {
         return Reached::Astray;
     }
-    let count = subterms(byte_of(from, kinds));
+    let count = subterms(kind_of(from, kinds));
     if count == 0 {
         return Reached::Astray;
     }
@@ -46,7 +51,7 @@ pub fn descend(
 }
 
 // The subterm of a term that `to` stands in, where the term has so many.
-fn step_to(from: usize, to: usize, count: u8, after: &[u16; 1024]) -> Step
+fn step_to(from: usize, to: usize, count: u8, after: &After) -> Step
     requires { ⌜ from < 1024 ⌝ }
     ensures { λ r. ⌜ (r .next ≡ code.next count (now (after .entry)) from to)
         × (r .digit ≡ code.digit count (now (after .entry)) from to) ⌝ }
@@ -69,41 +74,4 @@ fn step_to(from: usize, to: usize, count: u8, after: &[u16; 1024]) -> Step
         next: first,
         digit: 1,
     }
-}
-
-// What a column of terms has of term n, 0 where there is no such term.
-pub fn byte_of(n: usize, column: &[u8; 1024]) -> u8
-    ensures { λ r. ⌜ r ≡ look 1024 (now (column .entry)) n ⌝ }
-{
-    if n < 1024 { column[n] } else { 0 }
-}
-
-// The number of the term behind term n.
-fn after_of(n: usize, after: &[u16; 1024]) -> usize
-    ensures { λ r. ⌜ r ≡ look 1024 (now (after .entry)) n ⌝ }
-{
-    if n < 1024 { wide_16(after[n]) } else { 0 }
-}
-
-// The number of a definition's root.
-pub fn root_of(definition: usize, roots: &[u16; 64]) -> usize
-    ensures { λ r. ⌜ r ≡ look 64 (now (roots .entry)) definition ⌝ }
-{
-    if definition < 64 {
-        wide_16(roots[definition])
-    } else {
-        0
-    }
-}
-
-pub fn wide(x: u8) -> usize
-    ensures { λ r. ⌜ r ≡ x ⌝ }
-{
-    x as usize
-}
-
-fn wide_16(x: u16) -> usize
-    ensures { λ r. ⌜ r ≡ x ⌝ }
-{
-    x as usize
 }

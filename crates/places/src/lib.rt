@@ -2,10 +2,17 @@
 // It relies on the columns of the table check and on the constant table by kind.
 mod descent;
 
-use descent::byte_of;
+use columns::After;
+use columns::Kinds;
+use columns::Owners;
+use columns::Roots;
+use columns::kind_of;
+use columns::owner_of;
+use columns::root_of;
 use descent::descend;
-use descent::root_of;
-use descent::wide;
+use frames::PATH_ROOM;
+use kinds::PREFIX;
+use numbers::wide;
 ghost use mathlib.Core.Path.{_≡_};
 ghost use Prim.Native.Nat.{_≤_};
 ghost use lib.Seq.{sets};
@@ -13,7 +20,8 @@ ghost use Rattle.places.specs.code.Descent as code;
 ghost use Rattle.places.specs.code.Descent.{answer, digits, literal-path, reached, path-of, event-of};
 ghost use Rattle.columns.specs.words.Columns.{columns};
 
-const PREFIX: u8 = 2;
+// The path of a literal, in front of what stood there.
+pub type Path = [u8; PATH_ROOM];
 
 // A literal: the left-hand side of a definition; the own literal of a term, by its number, which for a prefix
 // is the arrow; or the event of a prefix.
@@ -46,11 +54,11 @@ pub struct Step {
 // leaves it as it was.
 pub fn place(
     literal: Literal,
-    kinds: &[u8; 1024],
-    owners: &[u8; 1024],
-    after: &[u16; 1024],
-    roots: &[u16; 64],
-    path: &mut [u8; 64],
+    kinds: &Kinds,
+    owners: &Owners,
+    after: &After,
+    roots: &Roots,
+    path: &mut Path,
 ) -> Placed
     ensures { λ r. ⌜ r ≡ answer
         (columns (now (kinds .entry)) (now (owners .entry)) (now (after .entry)) (now (roots .entry)))
@@ -68,14 +76,14 @@ pub fn place(
             }
         }
         Literal::Own(n) => {
-            let definition = byte_of(n, owners);
+            let definition = owner_of(n, owners);
             answer_of(
                 definition,
                 path_to(n, 64, kinds, owners, after, roots, path),
             )
         }
         Literal::Event(n) => {
-            let definition = byte_of(n, owners);
+            let definition = owner_of(n, owners);
             answer_of(definition, event_to(n, kinds, owners, after, roots, path))
         }
     }
@@ -95,11 +103,11 @@ fn answer_of(definition: u8, reached: Reached) -> Placed
 fn path_to(
     n: usize,
     most: usize,
-    kinds: &[u8; 1024],
-    owners: &[u8; 1024],
-    after: &[u16; 1024],
-    roots: &[u16; 64],
-    path: &mut [u8; 64],
+    kinds: &Kinds,
+    owners: &Owners,
+    after: &After,
+    roots: &Roots,
+    path: &mut Path,
 ) -> Reached
     requires { ⌜ most ≤ 64 ⌝ }
     ensures { λ r. ⌜ r ≡ reached 0 (path-of most
@@ -109,7 +117,7 @@ fn path_to(
         (columns (now (kinds .entry)) (now (owners .entry)) (now (after .entry)) (now (roots .entry)))
         n)) ⌝ }
 {
-    let definition = byte_of(n, owners);
+    let definition = owner_of(n, owners);
     let root = root_of(wide(definition), roots);
     descend(root, n, 0, most, kinds, after, path)
 }
@@ -117,11 +125,11 @@ fn path_to(
 // Writes the path of a prefix's event: its prefix's, and the digit 1.
 fn event_to(
     n: usize,
-    kinds: &[u8; 1024],
-    owners: &[u8; 1024],
-    after: &[u16; 1024],
-    roots: &[u16; 64],
-    path: &mut [u8; 64],
+    kinds: &Kinds,
+    owners: &Owners,
+    after: &After,
+    roots: &Roots,
+    path: &mut Path,
 ) -> Reached
     ensures { λ r. ⌜ r ≡ reached 0 (event-of
         (columns (now (kinds .entry)) (now (owners .entry)) (now (after .entry)) (now (roots .entry)))
@@ -130,7 +138,7 @@ fn event_to(
         (columns (now (kinds .entry)) (now (owners .entry)) (now (after .entry)) (now (roots .entry)))
         n)) ⌝ }
 {
-    let kind = byte_of(n, kinds);
+    let kind = kind_of(n, kinds);
     if kind != PREFIX {
         return Reached::Astray;
     }

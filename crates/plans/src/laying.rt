@@ -1,25 +1,23 @@
 // The plan of a table laid out from the columns of its check, a term at a time: its own words are its kind,
 // its operand and its second subterm, and it tells its subterms which sequence is around them.
+use crate::PLAN_WORDS;
+use crate::Plan;
+use columns::After;
+use columns::Kinds;
+use columns::Payloads;
+use columns::Roots;
+use frames::DEFINITION_ROOM;
+use frames::TERM_ROOM;
+use kinds::CALL;
+use kinds::EXTERNAL;
+use kinds::PARALLEL;
+use kinds::PREFIX;
+use kinds::SEQUENCE;
 use kinds::subterms;
 ghost use mathlib.Core.Path.{_≡_};
 ghost use Prim.Native.Nat.{_<_};
 ghost use Rattle.columns.specs.words.Columns.{look};
 ghost use Rattle.plans.specs.code.Laid as of;
-
-const TERMS: usize = 1024;
-
-const DEFINITIONS: usize = 64;
-
-// Kinds of terms.
-const CALL: u8 = 1;
-
-const PREFIX: u8 = 2;
-
-const EXTERNAL: u8 = 4;
-
-const SEQUENCE: u8 = 5;
-
-const PARALLEL: u8 = 6;
 
 // The words of a term.
 const KIND: usize = 0;
@@ -34,20 +32,20 @@ const AROUND: usize = 3;
 // passed over.
 pub fn lay_out(
     terms: usize,
-    kinds: &[u8; 1024],
-    payloads: &[u64; 1024],
-    after: &[u16; 1024],
-    roots: &[u16; 64],
-    plan: &mut [u16; 4096],
+    kinds: &Kinds,
+    payloads: &Payloads,
+    after: &After,
+    roots: &Roots,
+    plan: &mut Plan,
 )
     ensures { λ _. ⌜ now (plan .exit)
         ≡ of.laid-out terms (now (kinds .entry)) (now (payloads .entry)) (now (after .entry))
         (now (roots .entry)) ⌝ }
 {
-    *plan = [0u16; 4096];
+    *plan = [0u16; PLAN_WORDS];
     let mut t: usize = 0;
     while t < terms {
-        if TERMS <= t {
+        if TERM_ROOM <= t {
             return;
         }
         let kind = kinds[t];
@@ -59,7 +57,7 @@ pub fn lay_out(
 }
 
 // A term's turn.
-fn lay_term(t: usize, kind: u8, operand: u16, second: u16, plan: &mut [u16; 4096])
+fn lay_term(t: usize, kind: u8, operand: u16, second: u16, plan: &mut Plan)
     requires { ⌜ t < 1024 ⌝ }
     ensures { λ _. ⌜ now (plan .exit) ≡ of.laid kind operand second t (now (plan .entry)) ⌝ }
 {
@@ -79,7 +77,7 @@ fn lay_term(t: usize, kind: u8, operand: u16, second: u16, plan: &mut [u16; 4096
 }
 
 // Puts a term's own words.
-fn put_own(t: usize, kind: u8, operand: u16, second: u16, plan: &mut [u16; 4096])
+fn put_own(t: usize, kind: u8, operand: u16, second: u16, plan: &mut Plan)
     ensures { λ _. ⌜ now (plan .exit) ≡ of.own-words kind operand second t (now (plan .entry)) ⌝ }
 {
     put(t, KIND, kind as u16, plan);
@@ -88,7 +86,7 @@ fn put_own(t: usize, kind: u8, operand: u16, second: u16, plan: &mut [u16; 4096]
 }
 
 // A prefix's event; the root that a call leads to; 0 for any other term.
-fn operand_to(kind: u8, payload: u64, roots: &[u16; 64]) -> u16
+fn operand_to(kind: u8, payload: u64, roots: &Roots) -> u16
     ensures { λ r. ⌜ r ≡ of.operand-of kind payload (now (roots .entry)) ⌝ }
 {
     if kind == PREFIX {
@@ -101,7 +99,7 @@ fn operand_to(kind: u8, payload: u64, roots: &[u16; 64]) -> u16
 }
 
 // The second subterm of term t, the term behind its first; 0 where it has no two.
-fn second_to(kind: u8, t: usize, after: &[u16; 1024]) -> u16
+fn second_to(kind: u8, t: usize, after: &After) -> u16
     requires { ⌜ t < 1024 ⌝ }
     ensures { λ r. ⌜ r ≡ of.second-of kind t (now (after .entry)) ⌝ }
 {
@@ -136,20 +134,20 @@ fn through(kind: u8, around: u16) -> u16
 }
 
 // Puts word k of a term.
-fn put(t: usize, k: usize, value: u16, plan: &mut [u16; 4096])
+fn put(t: usize, k: usize, value: u16, plan: &mut Plan)
     requires { ⌜ k < 4 ⌝ }
     ensures { λ _. ⌜ now (plan .exit) ≡ of.put k t value (now (plan .entry)) ⌝ }
 {
-    if t < TERMS {
+    if t < TERM_ROOM {
         plan[4 * t + k] = value;
     }
 }
 
 // The root of a definition.
-fn root_of(definition: usize, roots: &[u16; 64]) -> u16
+fn root_of(definition: usize, roots: &Roots) -> u16
     ensures { λ r. ⌜ r ≡ look 64 (now (roots .entry)) definition ⌝ }
 {
-    if definition < DEFINITIONS {
+    if definition < DEFINITION_ROOM {
         roots[definition]
     } else {
         0
@@ -157,8 +155,8 @@ fn root_of(definition: usize, roots: &[u16; 64]) -> u16
 }
 
 // The term behind term t and its subterms.
-fn after_of(t: usize, after: &[u16; 1024]) -> u16
+fn after_of(t: usize, after: &After) -> u16
     ensures { λ r. ⌜ r ≡ look 1024 (now (after .entry)) t ⌝ }
 {
-    if t < TERMS { after[t] } else { 0 }
+    if t < TERM_ROOM { after[t] } else { 0 }
 }

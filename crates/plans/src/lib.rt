@@ -3,29 +3,51 @@
 // sequence around it. It relies on the columns of the table check.
 mod laying;
 
+use columns::wide;
+use frames::TERM_ROOM;
 pub use laying::lay_out;
 ghost use mathlib.Core.Path.{_≡_};
 ghost use Prim.Native.Nat.{_<_};
 ghost use Rattle.plans.specs.words.Plan as of;
 
-const TERMS: usize = 1024;
+// A plan: four words for each term.
+pub const PLAN_WORDS: usize = 4096;
+
+pub type Plan = [u16; PLAN_WORDS];
+
+// The kinds of terms, as a plan's words have them.
+pub const CALL_WORD: usize = 1;
+
+pub const PREFIX_WORD: usize = 2;
+
+pub const INTERNAL_WORD: usize = 3;
+
+pub const EXTERNAL_WORD: usize = 4;
+
+pub const SEQUENCE_WORD: usize = 5;
+
+pub const PARALLEL_WORD: usize = 6;
+
+pub const SKIP_WORD: usize = 7;
+
+pub const STOP_WORD: usize = 8;
 
 // A term's kind, 0 where there is no such term.
-pub fn kind_of(t: usize, plan: &[u16; 4096]) -> usize
+pub fn kind_of(t: usize, plan: &Plan) -> usize
     ensures { λ r. ⌜ r ≡ of.kind (now (plan .entry)) t ⌝ }
 {
     word(t, 0, plan)
 }
 
 // A prefix's event; the root that a call leads to.
-pub fn operand_of(t: usize, plan: &[u16; 4096]) -> usize
+pub fn operand_of(t: usize, plan: &Plan) -> usize
     ensures { λ r. ⌜ r ≡ of.operand (now (plan .entry)) t ⌝ }
 {
     word(t, 1, plan)
 }
 
 // A term's second subterm; its first is the term behind it.
-pub fn second_of(t: usize, plan: &[u16; 4096]) -> usize
+pub fn second_of(t: usize, plan: &Plan) -> usize
     ensures { λ r. ⌜ r ≡ of.second (now (plan .entry)) t ⌝ }
 {
     word(t, 2, plan)
@@ -33,22 +55,20 @@ pub fn second_of(t: usize, plan: &[u16; 4096]) -> usize
 
 // One more than the nearest sequence that a term stands in the left of, with no choice or parallel between;
 // 0 where there is none.
-pub fn around_of(t: usize, plan: &[u16; 4096]) -> usize
+pub fn around_of(t: usize, plan: &Plan) -> usize
     ensures { λ r. ⌜ r ≡ of.around (now (plan .entry)) t ⌝ }
 {
     word(t, 3, plan)
 }
 
 // Word k of a term.
-fn word(t: usize, k: usize, plan: &[u16; 4096]) -> usize
+fn word(t: usize, k: usize, plan: &Plan) -> usize
     requires { ⌜ k < 4 ⌝ }
     ensures { λ r. ⌜ r ≡ of.word k (now (plan .entry)) t ⌝ }
 {
-    if t < TERMS { wide(plan[4 * t + k]) } else { 0 }
-}
-
-fn wide(x: u16) -> usize
-    ensures { λ r. ⌜ r ≡ x ⌝ }
-{
-    x as usize
+    if t < TERM_ROOM {
+        wide(plan[4 * t + k])
+    } else {
+        0
+    }
 }

@@ -3,20 +3,32 @@
 // script is over its room. All that it tells comes from the proved libraries; here it is only read and written.
 mod telling;
 
+use columns::After;
+use columns::Kinds;
+use columns::Owners;
+use columns::Payloads;
+use columns::Roots;
+use control::Counters;
+use control::NODE_WORDS;
+use control::Nodes;
+use control::TRACK_WORDS;
+use control::Track;
+use frames::DEFINITION_ROOM;
+use frames::TERM_ROOM;
+use inputs::INPUT_ROOM;
 use inputs::table_end;
+use plans::PLAN_WORDS;
+use plans::Plan;
 use plans::lay_out;
 use playing::Played;
 use playing::play;
 use runs::start;
+use scripts::DIGIT_ROOM;
+use scripts::SCRIPT_TEXT_ROOM;
 use tables::Checked;
 use tables::Counts;
 use tables::check;
 use telling::tell_run;
-
-// A table's text, a script's, and one byte more, so that a text over its room is seen to be.
-const INPUT_ROOM: usize = 98305;
-
-const SCRIPT_ROOM: usize = 65536;
 
 fn main() {
     let mut buffer = [0u8; INPUT_ROOM];
@@ -26,11 +38,11 @@ fn main() {
 
 // Checks the table's text, and plays the script behind it.
 fn play_input(text: &[u8]) {
-    let mut kinds = [0u8; 1024];
-    let mut payloads = [0u64; 1024];
-    let mut owners = [0u8; 1024];
-    let mut after = [0u16; 1024];
-    let mut roots = [0u16; 64];
+    let mut kinds = [0u8; TERM_ROOM];
+    let mut payloads = [0u64; TERM_ROOM];
+    let mut owners = [0u8; TERM_ROOM];
+    let mut after = [0u16; TERM_ROOM];
+    let mut roots = [0u16; DEFINITION_ROOM];
     let end = table_end(text);
     let checked = check(
         &text[..end],
@@ -58,19 +70,19 @@ fn play_input(text: &[u8]) {
 fn play_script(
     script: &[u8],
     counts: Counts,
-    kinds: &[u8; 1024],
-    payloads: &[u64; 1024],
-    owners: &[u8; 1024],
-    after: &[u16; 1024],
-    roots: &[u16; 64],
+    kinds: &Kinds,
+    payloads: &Payloads,
+    owners: &Owners,
+    after: &After,
+    roots: &Roots,
 ) {
-    if SCRIPT_ROOM < script.len() {
+    if SCRIPT_TEXT_ROOM < script.len() {
         return;
     }
-    let mut plan = [0u16; 4096];
+    let mut plan = [0u16; PLAN_WORDS];
     lay_out(counts.terms, kinds, payloads, after, roots, &mut plan);
-    let mut nodes = [0u16; 65544];
-    let mut track = [0u16; 28672];
+    let mut nodes = [0u16; NODE_WORDS];
+    let mut track = [0u16; TRACK_WORDS];
     let mut counters = [0u16; 8];
     start(&mut nodes, &mut track, &mut counters);
     play_lines(
@@ -97,16 +109,16 @@ fn play_script(
 // Plays lines up to the first that is no step; a script has no more lines than bytes.
 fn play_lines(
     script: &[u8],
-    plan: &[u16; 4096],
-    sets: &[u64; 1024],
-    nodes: &mut [u16; 65544],
-    track: &mut [u16; 28672],
-    counters: &mut [u16; 8],
+    plan: &Plan,
+    sets: &Payloads,
+    nodes: &mut Nodes,
+    track: &mut Track,
+    counters: &mut Counters,
 ) {
-    let mut digits = [0u8; 1024];
+    let mut digits = [0u8; DIGIT_ROOM];
     let mut at = 0;
     let mut count = 0;
-    while count < SCRIPT_ROOM {
+    while count < SCRIPT_TEXT_ROOM {
         let played = play(script, at, &mut digits, plan, sets, nodes, track, counters);
         let Played::Stepped { event: _, next } = played else {
             return;

@@ -1,45 +1,53 @@
 // The inside of a run, told in lines of hexadecimal: what is offered, the counters, and the track by its references.
+use columns::After;
+use columns::Kinds;
+use columns::Owners;
+use columns::Payloads;
+use columns::Roots;
+use control::Counters;
 use control::LABEL;
+use control::MEETINGS_FROM;
+use control::Nodes;
+use control::REFERENCES;
+use control::Track;
 use control::track_word;
 use control::word;
+use frames::PATH_ROOM;
+use inputs::STANDARD_OUTPUT;
 use offers::offers;
 use places::Literal;
+use places::Path;
 use places::Placed;
 use places::place;
+use plans::Plan;
 ghost use Prim.Native.Nat.{_≤_};
-
-const OUT: i32 = 1;
-
-const REFERENCES: usize = 8193;
-
-const MEETINGS: usize = 16384;
 
 // Tells what a run has come to.
 pub fn tell_run(
-    kinds: &[u8; 1024],
-    owners: &[u8; 1024],
-    after: &[u16; 1024],
-    roots: &[u16; 64],
-    sets: &[u64; 1024],
-    plan: &[u16; 4096],
-    nodes: &[u16; 65544],
-    track: &[u16; 28672],
-    counters: &[u16; 8],
+    kinds: &Kinds,
+    owners: &Owners,
+    after: &After,
+    roots: &Roots,
+    sets: &Payloads,
+    plan: &Plan,
+    nodes: &Nodes,
+    track: &Track,
+    counters: &Counters,
 ) {
     tell_offers(wide(counters[0]), sets, plan, nodes);
     tell_counters(counters);
     tell_nodes(wide(counters[1]), kinds, owners, after, roots, nodes);
     tell_pairs(b"52", 0, wide(counters[4]), track);
-    tell_pairs(b"53", MEETINGS, wide(counters[5]), track);
+    tell_pairs(b"53", MEETINGS_FROM, wide(counters[5]), track);
 }
 
 // `42 tt kk` and the set of events offered.
-fn tell_offers(reference: usize, sets: &[u64; 1024], plan: &[u16; 4096], nodes: &[u16; 65544]) {
+fn tell_offers(reference: usize, sets: &Payloads, plan: &Plan, nodes: &Nodes) {
     let offered = offers(reference, plan, sets, nodes);
-    io::write_all(OUT, b"42");
+    io::write_all(STANDARD_OUTPUT, b"42");
     tell_flag(offered.tau);
     tell_flag(offered.tick);
-    io::print_hex(OUT, offered.events, 16);
+    io::print_hex(STANDARD_OUTPUT, offered.events, 16);
     end_line();
 }
 
@@ -52,8 +60,8 @@ fn tell_flag(flag: bool) {
 }
 
 // `43` and the counters: reference, next fresh one, cells, nodes, arcs, meetings.
-fn tell_counters(counters: &[u16; 8]) {
-    io::write_all(OUT, b"43");
+fn tell_counters(counters: &Counters) {
+    io::write_all(STANDARD_OUTPUT, b"43");
     let mut i = 0;
     while i < 6 {
         tell_word(wide(counters[i]));
@@ -65,11 +73,11 @@ fn tell_counters(counters: &[u16; 8]) {
 // `51 iiii dd ll path`: each labelled reference with its place.
 fn tell_nodes(
     fresh: usize,
-    kinds: &[u8; 1024],
-    owners: &[u8; 1024],
-    after: &[u16; 1024],
-    roots: &[u16; 64],
-    nodes: &[u16; 65544],
+    kinds: &Kinds,
+    owners: &Owners,
+    after: &After,
+    roots: &Roots,
+    nodes: &Nodes,
 ) {
     let mut n = 0;
     while n < REFERENCES {
@@ -78,7 +86,7 @@ fn tell_nodes(
         }
         let mark = word(n, LABEL, nodes);
         if mark != 0 {
-            io::write_all(OUT, b"51");
+            io::write_all(STANDARD_OUTPUT, b"51");
             tell_word(n);
             tell_place(literal_of(mark), kinds, owners, after, roots);
             end_line();
@@ -98,14 +106,8 @@ fn literal_of(mark: usize) -> Literal {
     Literal::Event((mark - 2) / 2)
 }
 
-fn tell_place(
-    literal: Literal,
-    kinds: &[u8; 1024],
-    owners: &[u8; 1024],
-    after: &[u16; 1024],
-    roots: &[u16; 64],
-) {
-    let mut path = [0u8; 64];
+fn tell_place(literal: Literal, kinds: &Kinds, owners: &Owners, after: &After, roots: &Roots) {
+    let mut path = [0u8; PATH_ROOM];
     let placed = place(literal, kinds, owners, after, roots, &mut path);
     match placed {
         Placed::At { definition, length } => {
@@ -114,12 +116,12 @@ fn tell_place(
             tell_path(&path, length);
         }
         Placed::Nowhere => {
-            io::write_all(OUT, b"nowhere");
+            io::write_all(STANDARD_OUTPUT, b"nowhere");
         }
     }
 }
 
-fn tell_path(path: &[u8; 64], count: usize) {
+fn tell_path(path: &Path, count: usize) {
     let mut i = 0;
     while i < 64 {
         if count <= i {
@@ -131,7 +133,7 @@ fn tell_path(path: &[u8; 64], count: usize) {
 }
 
 // `52 iiii jjjj`, or `53`: arcs or meetings in the order made.
-fn tell_pairs(tag: &[u8], from: usize, count: usize, track: &[u16; 28672])
+fn tell_pairs(tag: &[u8], from: usize, count: usize, track: &Track)
     requires { ⌜ from ≤ 16384 ⌝ }
 {
     let mut i = 0;
@@ -139,7 +141,7 @@ fn tell_pairs(tag: &[u8], from: usize, count: usize, track: &[u16; 28672])
         if count <= i {
             return;
         }
-        io::write_all(OUT, tag);
+        io::write_all(STANDARD_OUTPUT, tag);
         tell_word(track_word(from + 2 * i, track));
         tell_word(track_word(from + 2 * i + 1, track));
         end_line();
@@ -148,19 +150,19 @@ fn tell_pairs(tag: &[u8], from: usize, count: usize, track: &[u16; 28672])
 }
 
 fn tell_byte(x: u8) {
-    io::print_hex(OUT, x as u64, 2);
+    io::print_hex(STANDARD_OUTPUT, x as u64, 2);
 }
 
 fn tell_short(x: usize) {
-    io::print_hex(OUT, x as u64, 2);
+    io::print_hex(STANDARD_OUTPUT, x as u64, 2);
 }
 
 fn tell_word(x: usize) {
-    io::print_hex(OUT, x as u64, 4);
+    io::print_hex(STANDARD_OUTPUT, x as u64, 4);
 }
 
 fn end_line() {
-    io::write_all(OUT, b"\n");
+    io::write_all(STANDARD_OUTPUT, b"\n");
 }
 
 fn wide(x: u16) -> usize {

@@ -1,7 +1,13 @@
 // A script's line played: its digits are read, and the run takes its step. It relies on the script's lines and on the step.
-use control::Event;
+use columns::Payloads;
+use control::Counters;
+use control::Nodes;
+use control::Track;
+use plans::Plan;
+use rules::Event;
 use runs::Answer;
 use runs::step;
+use scripts::Digits;
 use scripts::Step;
 use scripts::next_step;
 ghost use mathlib.Core.Path.{_≡_};
@@ -23,12 +29,12 @@ pub enum Played {
 pub fn play(
     text: &[u8],
     at: usize,
-    digits: &mut [u8; 1024],
-    plan: &[u16; 4096],
-    sets: &[u64; 1024],
-    nodes: &mut [u16; 65544],
-    track: &mut [u16; 28672],
-    counters: &mut [u16; 8],
+    digits: &mut Digits,
+    plan: &Plan,
+    sets: &Payloads,
+    nodes: &mut Nodes,
+    track: &mut Track,
+    counters: &mut Counters,
 ) -> Played
     ensures { λ r. ⌜ r ≡ spec.played (now (plan .entry)) (now (sets .entry)) (now (nodes .entry))
         (now (track .entry)) (now (counters .entry)) at (lines (drop at (now (text .entry)))) (now (digits .entry)) .played ⌝ }

@@ -1,6 +1,20 @@
 // Saved tracks read: a text's lines are read into columns, the reader's rules are tested on them, and an accepted graph is
 // handed over. It relies on the parts of the line reading and on the test of a graph's shape.
+use columns::After;
+use columns::Kinds;
+use columns::Payloads;
+use columns::Roots;
+use control::MEETINGS_FROM;
+use control::REFERENCES;
+use control::TRACK_WORDS;
+use control::Track;
+use graphs::ARC_FRAME;
+use graphs::MEETING_FRAME;
+use lines::SHAPE_BROKEN;
+use links::Column;
 use links::Counts;
+use links::SIDE_WORDS;
+use links::SideWords;
 use parsing::Lines;
 use parsing::Opened;
 use parsing::first_line;
@@ -14,17 +28,6 @@ ghost use Rattle.graphs.specs.Parsed.{parsed};
 ghost use Rattle.reading.specs.code.Outcome as of;
 ghost use Rattle.reading.specs.words.Kept.{Reads};
 
-// First bytes of frames.
-const ARC: u8 = 50;
-
-const MEETING: u8 = 51;
-
-// Where the meetings begin in a track.
-const MEETINGS_FROM: usize = 16384;
-
-// The number of the refusal where a rule of shape is broken, which is told with line 0.
-const BROKEN_SHAPE: u8 = 13;
-
 // What reading comes to: the counts of the graph that was read; or a refusal's number and line.
 pub enum Read {
     Accepted(Counts),
@@ -36,18 +39,18 @@ pub enum Read {
 pub fn read_track(
     text: &[u8],
     definitions: usize,
-    kinds: &[u8; 1024],
-    payloads: &[u64; 1024],
-    after: &[u16; 1024],
-    roots: &[u16; 64],
-    labels: &mut [u16; 8193],
-    graph: &mut [u16; 28672],
-    marks: &mut [u16; 8193],
-    track: &mut [u16; 28672],
-    sides: &mut [u16; 16388],
-    pending: &mut [u16; 16388],
-    numbers: &mut [u16; 8193],
-    walked: &mut [u16; 8193],
+    kinds: &Kinds,
+    payloads: &Payloads,
+    after: &After,
+    roots: &Roots,
+    labels: &mut Column,
+    graph: &mut Track,
+    marks: &mut Column,
+    track: &mut Track,
+    sides: &mut SideWords,
+    pending: &mut SideWords,
+    numbers: &mut Column,
+    walked: &mut Column,
 ) -> Read
     ensures { λ r. ⌜ r ≡ of.answer (of.outcome (now (kinds .entry)) (now (payloads .entry)) (now (after .entry))
         (now (roots .entry)) definitions (now (text .entry))) ⌝ }
@@ -80,10 +83,10 @@ pub fn read_track(
         numbers,
         walked,
     );
-    *sides = [0u16; 16388];
-    *pending = [0u16; 16388];
-    *numbers = [0u16; 8193];
-    *walked = [0u16; 8193];
+    *sides = [0u16; SIDE_WORDS];
+    *pending = [0u16; SIDE_WORDS];
+    *numbers = [0u16; REFERENCES];
+    *walked = [0u16; REFERENCES];
     hand_over(judged, labels, graph, marks, track);
     judged
 }
@@ -91,10 +94,10 @@ pub fn read_track(
 // Hands an accepted graph over, and leaves the reader's own columns all 0.
 fn hand_over(
     judged: Read,
-    labels: &mut [u16; 8193],
-    graph: &mut [u16; 28672],
-    marks: &mut [u16; 8193],
-    track: &mut [u16; 28672],
+    labels: &mut Column,
+    graph: &mut Track,
+    marks: &mut Column,
+    track: &mut Track,
 )
     ensures { λ _. ⌜ now (labels .exit) ≡ of.handed judged (now (marks .entry)) (now (labels .entry)) ⌝ }
     ensures { λ _. ⌜ now (graph .exit) ≡ of.handed judged (now (track .entry)) (now (graph .entry)) ⌝ }
@@ -105,24 +108,24 @@ fn hand_over(
         *labels = *marks;
         *graph = *track;
     }
-    *marks = [0u16; 8193];
-    *track = [0u16; 28672];
+    *marks = [0u16; REFERENCES];
+    *track = [0u16; TRACK_WORDS];
 }
 
 // Judges a text: its lines first, and then the shape of its graph.
 fn judge(
     text: &[u8],
     definitions: usize,
-    kinds: &[u8; 1024],
-    payloads: &[u64; 1024],
-    after: &[u16; 1024],
-    roots: &[u16; 64],
-    labels: &mut [u16; 8193],
-    graph: &mut [u16; 28672],
-    sides: &mut [u16; 16388],
-    pending: &mut [u16; 16388],
-    numbers: &mut [u16; 8193],
-    walked: &mut [u16; 8193],
+    kinds: &Kinds,
+    payloads: &Payloads,
+    after: &After,
+    roots: &Roots,
+    labels: &mut Column,
+    graph: &mut Track,
+    sides: &mut SideWords,
+    pending: &mut SideWords,
+    numbers: &mut Column,
+    walked: &mut Column,
 ) -> Read
     ensures { λ r. ⌜ r ≡ of.answer (of.outcome (now (kinds .entry)) (now (payloads .entry)) (now (after .entry))
         (now (roots .entry)) definitions (now (text .entry))) ⌝ }
@@ -150,7 +153,7 @@ fn judge(
     );
     if !fits {
         return Read::Refused {
-            number: BROKEN_SHAPE,
+            number: SHAPE_BROKEN,
             line: 0,
         };
     }
@@ -161,18 +164,18 @@ fn judge(
 fn read_lines(
     text: &[u8],
     definitions: usize,
-    kinds: &[u8; 1024],
-    after: &[u16; 1024],
-    roots: &[u16; 64],
-    labels: &mut [u16; 8193],
-    graph: &mut [u16; 28672],
+    kinds: &Kinds,
+    after: &After,
+    roots: &Roots,
+    labels: &mut Column,
+    graph: &mut Track,
 ) -> Read
     ensures { λ r. ⌜ r ≡ of.answer (parsed definitions (now (text .entry))) ⌝ }
     ensures { λ _. ⌜ of.Held (now (kinds .entry)) (now (after .entry)) (now (roots .entry))
         (parsed definitions (now (text .entry))) (now (labels .exit)) (now (graph .exit)) ⌝ }
 {
-    *labels = [0u16; 8193];
-    *graph = [0u16; 28672];
+    *labels = [0u16; REFERENCES];
+    *graph = [0u16; TRACK_WORDS];
     let opened = first_line(text);
     let Opened::Track {
         nodes,
@@ -187,13 +190,22 @@ fn read_lines(
     let Lines::Goes(behind_nodes) = by_nodes else {
         return refused(by_nodes);
     };
-    let by_arcs = read_pairs(ARC, 0, text, behind_nodes, nodes + 2, arcs, nodes, graph);
+    let by_arcs = read_pairs(
+        ARC_FRAME,
+        0,
+        text,
+        behind_nodes,
+        nodes + 2,
+        arcs,
+        nodes,
+        graph,
+    );
     let Lines::Goes(behind_arcs) = by_arcs else {
         return refused(by_arcs);
     };
     let line = nodes + arcs + 2;
     let by_meetings = read_pairs(
-        MEETING,
+        MEETING_FRAME,
         MEETINGS_FROM,
         text,
         behind_arcs,

@@ -1,9 +1,22 @@
 // The lines of a table judged, each by what the lines before it have said: its frame, or the lowest number of refusal that it
 // meets. It relies on the line finder and on the frames.
+use frames::EVENT_ROOM;
 use frames::Frame;
+use frames::MOST_DEFINITIONS;
+use frames::MOST_EVENTS;
+use frames::PATH_ROOM;
 use frames::Seen;
+use frames::TABLE_EDITION;
+use frames::TERM_ROOM;
 use frames::read_frame;
+use kinds::CALL;
+use kinds::PARALLEL;
+use kinds::PREFIX;
+use lines::INCOMPLETE;
 use lines::Line;
+use lines::OUT_OF_RANGE;
+use lines::TERM_OVER_ROOM;
+use lines::WRONG_FRAME;
 use lines::characters;
 use lines::next_line;
 use lines::refusal_of;
@@ -33,16 +46,6 @@ pub enum Said {
     Stops(u8),
 }
 
-const CALL: u8 = 1;
-
-const PREFIX: u8 = 2;
-
-const PARALLEL: u8 = 6;
-
-const TERM_ROOM: usize = 1024;
-
-const PATH_ROOM: usize = 64;
-
 // Line 1 of a table.
 pub fn first_line(text: &[u8]) -> Opened
     ensures { λ r. ⌜ r ≡ opened (lines (now (text .entry))) ⌝ }
@@ -58,10 +61,10 @@ pub fn first_line(text: &[u8]) -> Opened
         events,
     } = frame
     else {
-        return Opened::Fails(2);
+        return Opened::Fails(WRONG_FRAME);
     };
     if opening_outside(edition, definitions, events) {
-        return Opened::Fails(3);
+        return Opened::Fails(OUT_OF_RANGE);
     }
     Opened::Table {
         definitions: definitions as usize,
@@ -74,16 +77,16 @@ pub fn first_line(text: &[u8]) -> Opened
 fn opening_outside(edition: u8, definitions: u8, events: u8) -> bool
     ensures { λ r. ⌜ r ≡ not (eqb (table.first-refusal (Opening edition definitions events)) 0) ⌝ }
 {
-    if edition != 1 {
+    if edition != TABLE_EDITION {
         return true;
     }
     if definitions < 1 {
         return true;
     }
-    if 64 < definitions {
+    if MOST_DEFINITIONS < definitions {
         return true;
     }
-    64 < events
+    MOST_EVENTS < events
 }
 
 // The line at a cursor behind line 1.
@@ -114,8 +117,8 @@ fn refusal(frame: Frame, s: Seen) -> u8
             edition: _,
             definitions: _,
             events: _,
-        } => 2,
-        Frame::Wrong => 2,
+        } => WRONG_FRAME,
+        Frame::Wrong => WRONG_FRAME,
     }
 }
 
@@ -124,13 +127,13 @@ fn definition_refusal(n: u8, s: Seen) -> u8
 {
     let number = n as usize;
     if number != s.begun {
-        return 3;
+        return OUT_OF_RANGE;
     }
     if s.definitions <= number {
-        return 3;
+        return OUT_OF_RANGE;
     }
     if s.due != 0 {
-        return 4;
+        return INCOMPLETE;
     }
     0
 }
@@ -139,13 +142,13 @@ fn closing_refusal(count: u64, s: Seen) -> u8
     ensures { λ r. ⌜ r ≡ table.refusal (Closing count) s ⌝ }
 {
     if count != s.terms as u64 {
-        return 3;
+        return OUT_OF_RANGE;
     }
     if 0 < s.due {
-        return 4;
+        return INCOMPLETE;
     }
     if s.begun < s.definitions {
-        return 4;
+        return INCOMPLETE;
     }
     0
 }
@@ -154,19 +157,19 @@ fn term_refusal(kind: u8, payload: u64, s: Seen) -> u8
     ensures { λ r. ⌜ r ≡ table.refusal (Term kind payload) s ⌝ }
 {
     if s.begun == 0 {
-        return 2;
+        return WRONG_FRAME;
     }
     if over_limit(kind, payload, s) {
-        return 3;
+        return OUT_OF_RANGE;
     }
     if s.due == 0 {
-        return 4;
+        return INCOMPLETE;
     }
     if TERM_ROOM <= s.terms {
-        return 5;
+        return TERM_OVER_ROOM;
     }
     if too_deep(kind, s) {
-        return 5;
+        return TERM_OVER_ROOM;
     }
     0
 }
@@ -182,7 +185,7 @@ fn over_limit(kind: u8, payload: u64, s: Seen) -> bool
         return s.events as u64 <= payload;
     }
     if kind == PARALLEL {
-        if 64 <= s.events {
+        if EVENT_ROOM <= s.events {
             return false;
         }
         return (1u64 << s.events) <= payload;

@@ -1,8 +1,21 @@
 // The rereading program: reads a table and then a saved track from standard input, and writes the track again, or tells the
 // refusal. All that it tells comes from the proved libraries; here it is only read and written.
+use columns::After;
+use columns::Kinds;
+use columns::Owners;
+use columns::Payloads;
+use columns::Roots;
+use control::REFERENCES;
+use control::TRACK_WORDS;
+use control::Track;
+use frames::DEFINITION_ROOM;
+use frames::TERM_ROOM;
+use inputs::STANDARD_OUTPUT;
 use inputs::table_end;
 use lines::characters;
+use links::Column;
 use links::Counts;
+use links::SIDE_WORDS;
 use reading::Read;
 use reading::read_track;
 use tables::Checked;
@@ -11,15 +24,13 @@ use writing::Saved;
 use writing::write;
 
 // A table and a saved track, and one byte more, so that an input over this program's room is seen to be.
-const INPUT_ROOM: usize = 262145;
+const REREAD_ROOM: usize = 262145;
 
 // No text that is written again is longer than the input.
 const TRACK_ROOM: usize = 262144;
 
-const OUT: i32 = 1;
-
 fn main() {
-    let mut buffer = [0u8; INPUT_ROOM];
+    let mut buffer = [0u8; REREAD_ROOM];
     let count = io::read_full(0, &mut buffer);
     if TRACK_ROOM < count {
         tell_refusal(6, 0);
@@ -30,11 +41,11 @@ fn main() {
 
 // Checks the table's text, and reads the saved track behind it.
 fn reread_input(text: &[u8]) {
-    let mut kinds = [0u8; 1024];
-    let mut payloads = [0u64; 1024];
-    let mut owners = [0u8; 1024];
-    let mut after = [0u16; 1024];
-    let mut roots = [0u16; 64];
+    let mut kinds = [0u8; TERM_ROOM];
+    let mut payloads = [0u64; TERM_ROOM];
+    let mut owners = [0u8; TERM_ROOM];
+    let mut after = [0u16; TERM_ROOM];
+    let mut roots = [0u16; DEFINITION_ROOM];
     let end = table_end(text);
     let checked = check(
         &text[..end],
@@ -62,20 +73,20 @@ fn reread_input(text: &[u8]) {
 fn reread_track(
     saved: &[u8],
     definitions: usize,
-    kinds: &[u8; 1024],
-    payloads: &[u64; 1024],
-    owners: &[u8; 1024],
-    after: &[u16; 1024],
-    roots: &[u16; 64],
+    kinds: &Kinds,
+    payloads: &Payloads,
+    owners: &Owners,
+    after: &After,
+    roots: &Roots,
 ) {
-    let mut labels = [0u16; 8193];
-    let mut graph = [0u16; 28672];
-    let mut own_labels = [0u16; 8193];
-    let mut own_graph = [0u16; 28672];
-    let mut sides = [0u16; 16388];
-    let mut pending = [0u16; 16388];
-    let mut numbers = [0u16; 8193];
-    let mut walked = [0u16; 8193];
+    let mut labels = [0u16; REFERENCES];
+    let mut graph = [0u16; TRACK_WORDS];
+    let mut own_labels = [0u16; REFERENCES];
+    let mut own_graph = [0u16; TRACK_WORDS];
+    let mut sides = [0u16; SIDE_WORDS];
+    let mut pending = [0u16; SIDE_WORDS];
+    let mut numbers = [0u16; REFERENCES];
+    let mut walked = [0u16; REFERENCES];
     let answer = read_track(
         saved,
         definitions,
@@ -101,12 +112,12 @@ fn reread_track(
 // Writes a track that was read.
 fn write_track(
     counts: Counts,
-    kinds: &[u8; 1024],
-    owners: &[u8; 1024],
-    after: &[u16; 1024],
-    roots: &[u16; 64],
-    labels: &[u16; 8193],
-    graph: &[u16; 28672],
+    kinds: &Kinds,
+    owners: &Owners,
+    after: &After,
+    roots: &Roots,
+    labels: &Column,
+    graph: &Track,
 ) {
     let mut text = [0u8; TRACK_ROOM];
     let saved = write(
@@ -122,15 +133,15 @@ fn write_track(
     match saved {
         Saved::Short(_) => tell_refusal(12, 0),
         Saved::Written(length) => {
-            io::write_all(OUT, characters(&text, 0, length));
+            io::write_all(STANDARD_OUTPUT, characters(&text, 0, length));
         }
     }
 }
 
 // `4e rr llll`: the refusal that ends the work.
 fn tell_refusal(number: u8, line: usize) {
-    io::write_all(OUT, b"4e");
-    io::print_hex(OUT, number as u64, 2);
-    io::print_hex(OUT, line as u64, 4);
-    io::write_all(OUT, b"\n");
+    io::write_all(STANDARD_OUTPUT, b"4e");
+    io::print_hex(STANDARD_OUTPUT, number as u64, 2);
+    io::print_hex(STANDARD_OUTPUT, line as u64, 4);
+    io::write_all(STANDARD_OUTPUT, b"\n");
 }

@@ -12,7 +12,8 @@ use lib.ListN.{length}
 use lib.Dec.{ltb}
 use Rattle.lines.specs.Line.{choose}
 use Rattle.terms.specs.Term.{Term}
-use Rattle.rules.specs.Process.{Event, Address, cells}
+use Rattle.rules.specs.declared.Event.{Event}
+use Rattle.rules.specs.Process.{Address, cells}
 use Rattle.rules.specs.Track.{Outcome}
 use Rattle.rules.specs.Tracking.{Tracks}
 use Rattle.rules.specs.Step.{Stepped, stepped, step}

@@ -8,8 +8,9 @@ use lib.ListN.{length}
 use lib.Dec.{eqb}
 use Rattle.lines.specs.Line.{choose}
 use Rattle.terms.specs.Term.{call, SKIP, STOP, external, sequence, parallel, Term, leaf, prefix, binary}
-use Rattle.rules.specs.Process.{Event, τ, ✓, visible, one, two, three, four, Address, joined, untouched}
-use Rattle.rules.specs.Process.{right-side, cells}
+use Rattle.rules.specs.declared.Event.{Event}
+use Rattle.rules.specs.declared.Event.the-variants.{Tau as τ, Tick as ✓, Visible as visible}
+use Rattle.rules.specs.Process.{one, two, three, four, Address, joined, untouched, right-side, cells}
 use Rattle.rules.specs.Track.{Label, Pair, labelled, prefixed, first-eval, around, each-with, meet}
 use Rattle.rules.specs.Track.{jointly, carried, started, leads, parents, ended}
 use Rattle.sets.specs.EventSet.{member}
@@ -17,9 +18,9 @@ use Rattle.rules.specs.Step.{one-side, by-side, same, both-sides, with-r
 use Rattle.rules.specs.Step.{at-Ω, then, step}
 use Rattle.rules.specs.Run.{State, start, after, over-room, Answer, accepted, refused, within-room}
 use Rattle.rules.specs.Run.{whole, answered, answer}
-use Rattle.rules.specs.Offers.{leaf-offers, offers-✓, offers-τ, offers-event, offers-some, Status, live}
-use Rattle.rules.specs.Offers.{stuck, status}
-use Rattle.rules.specs.Offers as Offers
+use Rattle.rules.specs.declared.Status.{Status}
+use Rattle.rules.specs.declared.Status.the-variants.{Live as live, Ended, Stuck as stuck}
+use Rattle.rules.specs.Offers.{leaf-offers, offers-✓, offers-τ, offers-event, offers-some, status}
 
 -- a label of a reference
 labels-it : List Label → ℕ → Bool
@@ -101,9 +102,9 @@ outcomes =
     ∷ told (τ ∷ visible 0 ∷ τ ∷ τ ∷ []) stuck 8 7 9 1 0
     ∷ told (τ ∷ visible 0 ∷ visible 1 ∷ []) live 6 5 7 0 0
     ∷ told (τ ∷ visible 1 ∷ visible 0 ∷ []) live 6 5 7 0 0
-    ∷ told (τ ∷ τ ∷ τ ∷ ✓ ∷ []) Offers.ended 4 3 7 0 0
+    ∷ told (τ ∷ τ ∷ τ ∷ ✓ ∷ []) Ended 4 3 7 0 0
     ∷ told (τ ∷ τ ∷ τ ∷ τ ∷ []) live 5 5 8 0 0
-    ∷ told (τ ∷ ✓ ∷ []) Offers.ended 3 2 3 0 0
+    ∷ told (τ ∷ ✓ ∷ []) Ended 3 2 3 0 0
     ∷ told (τ ∷ τ ∷ visible 0 ∷ []) live 5 4 6 0 0
     ∷ told (τ ∷ visible 0 ∷ []) live 9 8 11 3 0
     ∷ told (τ ∷ []) live 1 0 1 0 7

@@ -15,9 +15,10 @@ use Rattle.lines.specs.Line.{choose}
 use Rattle.lines.proofs.Digits.{both}
 use Rattle.terms.specs.Term.{call, SKIP, STOP, Term}
 use Rattle.places.specs.Place.{Place}
-use Rattle.rules.specs.Process.{Event, τ, ✓, visible, Digit, one, two, three, four, Address, Split}
-use Rattle.rules.specs.Process.{choice, together, Process, leaf, prefix, internal, split, sequence, Ω}
-use Rattle.rules.specs.Process.{⊥′}
+use Rattle.rules.specs.declared.Event.{Event}
+use Rattle.rules.specs.declared.Event.the-variants.{Tau as τ, Tick as ✓, Visible as visible}
+use Rattle.rules.specs.Process.{Digit, one, two, three, four, Address, Split, choice, together, Process}
+use Rattle.rules.specs.Process.{leaf, prefix, internal, split, sequence, Ω, ⊥′}
 use Rattle.rules.specs.Track.{At, Outcome, Entered, first-eval, inside, around, carried, right-inside}
 use Rattle.sets.specs.EventSet.{member}
 use Rattle.rules.specs.Tracking.{Visible, Shows, passes, hides-τ, hides-✓, Tracks, process-call}

@@ -7,7 +7,8 @@ use mathlib.Core.Option.{Option, none, some}
 use native.Mathlib.Omega.{arith}
 use Rattle.terms.specs.Term.{Term}
 use Rattle.places.specs.Place.{Place}
-use Rattle.rules.specs.Process.{Event, Address, Process}
+use Rattle.rules.specs.declared.Event.{Event}
+use Rattle.rules.specs.Process.{Address, Process}
 use Rattle.rules.specs.Track.{At, Outcome, labelled, prefixed, first-eval, around, beside, jointly}
 use Rattle.rules.specs.Track.{carried, started, ended}
 use Rattle.rules.specs.Tracking.{Tracks, process-call, prefixing, skip, stop, internal-choice-1}

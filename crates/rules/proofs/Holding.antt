@@ -12,8 +12,9 @@ use native.Mathlib.Omega.{arith}
 use lib.ListN.{getElem?}
 use Rattle.terms.specs.Term.{Term}
 use Rattle.places.specs.Place.{Place}
-use Rattle.rules.specs.Process.{Event, Address, Split, Process, leaf, prefix, internal, split, sequence}
-use Rattle.rules.specs.Process.{Ω, ⊥′, choice, together}
+use Rattle.rules.specs.declared.Event.{Event}
+use Rattle.rules.specs.Process.{Address, Split, Process, leaf, prefix, internal, split, sequence, Ω, ⊥′}
+use Rattle.rules.specs.Process.{choice, together}
 use Rattle.rules.specs.Track.{At, Outcome, labelled, prefixed, first-eval, inside, around, beside}
 use Rattle.rules.specs.Track.{right-eval, right-inside, jointly, carried, started, ended}
 use Rattle.rules.specs.Tracking.{Tracks, process-call, prefixing, skip, stop, internal-choice-1}

@@ -15,8 +15,9 @@ use Rattle.lines.specs.Line.{choose}
 use Rattle.terms.specs.Term.{Term, external, parallel}
 use Rattle.terms.specs.Term as Term
 use Rattle.places.specs.Place.{Place}
-use Rattle.rules.specs.Process.{Event, Address, Split, Process, leaf, prefix, internal, split, sequence}
-use Rattle.rules.specs.Process.{Ω, ⊥′, below, joined, untouched, right-side, choice, together}
+use Rattle.rules.specs.declared.Event.{Event}
+use Rattle.rules.specs.Process.{Address, Split, Process, leaf, prefix, internal, split, sequence, Ω, ⊥′}
+use Rattle.rules.specs.Process.{below, joined, untouched, right-side, choice, together}
 use Rattle.rules.specs.Track.{Label, At, Outcome, labelled, prefixed, first-eval, inside, around}
 use Rattle.rules.specs.Track.{beside, right-eval, right-inside, jointly, carried, started, ended}
 use Rattle.rules.specs.Tracking.{Tracks, process-call, prefixing, skip, stop, internal-choice-1}

@@ -20,8 +20,10 @@ use Rattle.places.specs.Place.{Place, path-in, term-at, PrefixAt, event, litera
 use Rattle.places.proofs.Sides.{Side, only, first, second, by-number, side-at, side-inside, path-root}
 use Rattle.places.proofs.Sides.{term-root}
 use Rattle.places.proofs.Laws.{event-found}
-use Rattle.rules.specs.Process.{Event, visible, Address, Process, leaf, prefix, internal, split}
-use Rattle.rules.specs.Process.{sequence, Ω, ⊥′, below, joined, untouched, right-side}
+use Rattle.rules.specs.declared.Event.{Event}
+use Rattle.rules.specs.declared.Event.the-variants.{Visible as visible}
+use Rattle.rules.specs.Process.{Address, Process, leaf, prefix, internal, split, sequence, Ω, ⊥′, below}
+use Rattle.rules.specs.Process.{joined, untouched, right-side}
 use Rattle.rules.specs.Track.{Label, Pair, pair, At, Outcome, labelled, prefixed, Entered, around}
 use Rattle.rules.specs.Track.{each-with, meet, jointly, carried, started, ended}
 use Rattle.rules.specs.Tracking.{Shows, passes, hides-τ, hides-✓, Tracks, process-call, prefixing, skip}

@@ -12,8 +12,10 @@ use Rattle.lines.specs.Line.{choose}
 use Rattle.lines.proofs.Digits.{both}
 use Rattle.terms.specs.Term.{Leaf, call, SKIP, STOP, Term}
 use Rattle.places.specs.Place.{Place}
-use Rattle.rules.specs.Process.{Event, τ, ✓, visible, one, two, three, four, Address, choice, together}
-use Rattle.rules.specs.Process.{Process, leaf, prefix, internal, split, sequence, Ω, ⊥′}
+use Rattle.rules.specs.declared.Event.{Event}
+use Rattle.rules.specs.declared.Event.the-variants.{Tau as τ, Tick as ✓, Visible as visible}
+use Rattle.rules.specs.Process.{one, two, three, four, Address, choice, together, Process, leaf, prefix}
+use Rattle.rules.specs.Process.{internal, split, sequence, Ω, ⊥′}
 use Rattle.rules.specs.Track.{At, Outcome, labelled, prefixed, first-eval, inside, around, right-inside}
 use Rattle.rules.specs.Track.{jointly, carried, started, ended}
 use Rattle.sets.specs.EventSet.{member}

@@ -15,9 +15,10 @@ use Rattle.lines.specs.Line.{choose}
 use Rattle.terms.specs.Term.{Operator, external, parallel, Term}
 use Rattle.terms.specs.Term as Term
 use Rattle.places.specs.Place.{Place}
-use Rattle.rules.specs.Process.{Event, τ, ✓, Address, Split, choice, together, Process, leaf, prefix}
-use Rattle.rules.specs.Process.{internal, split, sequence, Ω, ⊥′, below, joined, untouched, right-side}
-use Rattle.rules.specs.Process.{main}
+use Rattle.rules.specs.declared.Event.{Event}
+use Rattle.rules.specs.declared.Event.the-variants.{Tau as τ, Tick as ✓}
+use Rattle.rules.specs.Process.{Address, Split, choice, together, Process, leaf, prefix, internal}
+use Rattle.rules.specs.Process.{split, sequence, Ω, ⊥′, below, joined, untouched, right-side, main}
 use Rattle.rules.specs.Plain.{operator}
 use Rattle.rules.specs.Track.{At, Outcome, labelled, prefixed, around, jointly, carried, started, ended}
 use Rattle.rules.specs.Tracking.{Tracks, process-call, prefixing, skip, stop, internal-choice-1}

@@ -5,7 +5,9 @@ use Prim.Native.Nat.{ℕ}
 use mathlib.Core.Path.{_≡_, refl, sym, subst}
 use mathlib.Core.List.{List, []}
 use Rattle.terms.specs.Term.{Term}
-use Rattle.rules.specs.Process.{Event, τ, ✓, visible, Address, Process}
+use Rattle.rules.specs.declared.Event.{Event}
+use Rattle.rules.specs.declared.Event.the-variants.{Tau as τ, Tick as ✓, Visible as visible}
+use Rattle.rules.specs.Process.{Address, Process}
 use Rattle.rules.specs.Track.{At, Outcome, labelled, prefixed, around, jointly, carried, started, ended}
 use Rattle.rules.specs.Tracking.{Shows, passes, hides-τ, hides-✓, Tracks, process-call, prefixing, skip}
 use Rattle.rules.specs.Tracking.{stop, internal-choice-1, internal-choice-2, external-choice-1}

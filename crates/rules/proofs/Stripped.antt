@@ -11,9 +11,11 @@ use lib.ListN.{getElem?}
 use Rattle.terms.specs.Term.{call, SKIP, Operator, external, parallel, Term}
 use Rattle.terms.specs.Term as Term
 use Rattle.places.specs.Place.{Place}
-use Rattle.rules.specs.Process.{Event, τ, ✓, visible, Digit, one, two, three, Address, Split, choice}
-use Rattle.rules.specs.Process.{together, Process, leaf, prefix, internal, split, sequence, Ω, ⊥′}
-use Rattle.rules.specs.Process.{joined, untouched, right-side, rhs}
+use Rattle.rules.specs.declared.Event.{Event}
+use Rattle.rules.specs.declared.Event.the-variants.{Tau as τ, Tick as ✓, Visible as visible}
+use Rattle.rules.specs.Process.{Digit, one, two, three, Address, Split, choice, together, Process, leaf}
+use Rattle.rules.specs.Process.{prefix, internal, split, sequence, Ω, ⊥′, joined, untouched, right-side}
+use Rattle.rules.specs.Process.{rhs}
 use Rattle.rules.specs.Track.{At, Outcome, labelled, prefixed, around, jointly, carried, started, ended}
 use Rattle.sets.specs.EventSet.{member}
 use Rattle.rules.specs.Tracking.{Visible, Shows, passes, hides-τ, hides-✓, Tracks, process-call}

@@ -12,14 +12,17 @@ use borrow.Author.Tests.{eqb-true, eqb-false}
 use Rattle.lines.specs.Line.{choose}
 use Rattle.lines.proofs.Digits.{both}
 use Rattle.terms.specs.Term.{Leaf, call, SKIP, STOP, Term}
-use Rattle.rules.specs.Process.{Event, τ, ✓, visible, Address, choice, together, Process, leaf, prefix}
-use Rattle.rules.specs.Process.{internal, split, sequence, Ω, ⊥′}
+use Rattle.rules.specs.declared.Event.{Event}
+use Rattle.rules.specs.declared.Event.the-variants.{Tau as τ, Tick as ✓, Visible as visible}
+use Rattle.rules.specs.Process.{Address, choice, together, Process, leaf, prefix, internal, split}
+use Rattle.rules.specs.Process.{sequence, Ω, ⊥′}
 use Rattle.rules.specs.Track.{At, Outcome}
 use Rattle.sets.specs.EventSet.{member}
 use Rattle.rules.specs.Tracking.{Tracks}
 use Rattle.rules.specs.Step.{at-Ω}
-use Rattle.rules.specs.Offers.{leaf-offers, offers-✓, offers-τ, offers-event, offers, offers-some, live}
-use Rattle.rules.specs.Offers.{ended, stuck, status}
+use Rattle.rules.specs.declared.Status.the-variants.{Live as live, Ended as ended, Stuck as stuck}
+use Rattle.rules.specs.Offers.{leaf-offers, offers-✓, offers-τ, offers-event, offers, offers-some}
+use Rattle.rules.specs.Offers.{status}
 use Rattle.rules.proofs.Offered.{or-left, or-right, or-either, is-Ω, derived-offered, offered-derived}
 
 -- every event of a control is below n

@@ -1,15 +1,19 @@
 -- Offers and status. Document 01, 'Steps and addresses': the events that a control has derivations for, by
 -- following the term downward; ended at Ω, stuck when no address has a derivation and the control is not Ω,
--- else live.
+-- else live. Events and status are the enums that src/ declares, events by the report's signs.
 use Prim.Native.Nat.{ℕ, zero, suc}
 use mathlib.Core.Bool.{Bool, true, false, _&&_, _||_}
 use lib.Dec.{eqb}
 use Rattle.lines.specs.Line.{choose}
 use Rattle.terms.specs.Term.{Leaf, call, SKIP, STOP}
-use Rattle.rules.specs.Process.{Event, τ, ✓, visible, choice, together, Process, leaf, prefix, internal}
-use Rattle.rules.specs.Process.{split, sequence, Ω, ⊥′}
+use Rattle.rules.specs.declared.Event.{Event}
+use Rattle.rules.specs.declared.Event.the-variants.{Tau as τ, Tick as ✓, Visible as visible}
+use Rattle.rules.specs.Process.{choice, together, Process, leaf, prefix, internal, split, sequence, Ω}
+use Rattle.rules.specs.Process.{⊥′}
 use Rattle.sets.specs.EventSet.{member}
 use Rattle.rules.specs.Step.{at-Ω}
+use Rattle.rules.specs.declared.Status.{Status}
+use Rattle.rules.specs.declared.Status.the-variants.{Live as live, Ended as ended, Stuck as stuck}
 
 -- what a leaf offers; STOP's own step is a τ
 unfoldable pub leaf-offers : Leaf → Event → Bool
@@ -66,11 +70,6 @@ offers P (visible k) = offers-event k P
 unfoldable pub offers-some : ℕ → Process → Bool
 offers-some zero P = false
 offers-some (suc n) P = offers-event n P || offers-some n P
-
-pub data Status : Type 0 where
-  live : Status
-  ended : Status
-  stuck : Status
 
 -- the status of a control under a table of n events
 unfoldable pub status : ℕ → Process → Status

@@ -8,7 +8,9 @@ use mathlib.Core.Option.{Option, none, some}
 use lib.ListN.{getElem?}
 use Rattle.terms.specs.Term.{Leaf, call, SKIP, STOP, Operator, external, parallel, Term}
 use Rattle.terms.specs.Term as Term
-use Rattle.rules.specs.Process.{Event, τ, ✓, visible, Split, choice, together, Process, split, Ω, ⊥′}
+use Rattle.rules.specs.declared.Event.{Event}
+use Rattle.rules.specs.declared.Event.the-variants.{Tau as τ, Tick as ✓, Visible as visible}
+use Rattle.rules.specs.Process.{Split, choice, together, Process, split, Ω, ⊥′}
 use Rattle.rules.specs.Process as Live
 use Rattle.sets.specs.EventSet.{member}
 use Rattle.rules.specs.Tracking.{Visible, Shows}

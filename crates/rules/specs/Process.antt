@@ -9,12 +9,6 @@ use Rattle.terms.specs.Term.{Leaf, call, Operator, external, parallel, Term}
 use Rattle.terms.specs.Term as Term
 use Rattle.places.specs.Place.{Place, left-path}
 
--- τ, ✓ or a numbered event
-pub data Event : Type 0 where
-  τ : Event
-  ✓ : Event
-  visible : ℕ → Event
-
 -- the digits of an address
 pub data Digit : Type 0 where
   one : Digit

@@ -8,7 +8,8 @@ use lib.ListN.{length}
 use lib.Dec.{ltb}
 use Rattle.lines.specs.Line.{choose}
 use Rattle.terms.specs.Term.{Term}
-use Rattle.rules.specs.Process.{Event, Address, Process, main, cells}
+use Rattle.rules.specs.declared.Event.{Event}
+use Rattle.rules.specs.Process.{Address, Process, main, cells}
 use Rattle.rules.specs.Track.{Label, Pair, At, Outcome}
 use Rattle.rules.specs.Step.{Stepped, step}
 

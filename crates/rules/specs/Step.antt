@@ -9,8 +9,10 @@ use lib.Dec.{eqb}
 use Rattle.lines.specs.Line.{choose}
 use Rattle.terms.specs.Term.{call, SKIP, STOP, Term}
 use Rattle.places.specs.Place.{Place}
-use Rattle.rules.specs.Process.{Event, τ, ✓, visible, one, two, three, four, Address, Split, choice}
-use Rattle.rules.specs.Process.{together, Process, leaf, prefix, internal, split, sequence, Ω, ⊥′, rhs}
+use Rattle.rules.specs.declared.Event.{Event}
+use Rattle.rules.specs.declared.Event.the-variants.{Tau as τ, Tick as ✓, Visible as visible}
+use Rattle.rules.specs.Process.{one, two, three, four, Address, Split, choice, together, Process, leaf}
+use Rattle.rules.specs.Process.{prefix, internal, split, sequence, Ω, ⊥′, rhs}
 use Rattle.rules.specs.Track.{At, Outcome, labelled, prefixed, Entered, first-eval, inside, around}
 use Rattle.rules.specs.Track.{right-eval, right-inside, jointly, carried, started, ended}
 use Rattle.sets.specs.EventSet.{member}

@@ -9,8 +9,10 @@ use mathlib.Core.Option.{Option, some}
 use Rattle.sets.specs.EventSet.{member}
 use Rattle.terms.specs.Term.{call, SKIP, STOP, Term}
 use Rattle.places.specs.Place.{Place}
-use Rattle.rules.specs.Process.{Event, τ, ✓, visible, one, two, three, four, Address, choice, together}
-use Rattle.rules.specs.Process.{Process, leaf, prefix, internal, split, sequence, Ω, ⊥′, rhs}
+use Rattle.rules.specs.declared.Event.{Event}
+use Rattle.rules.specs.declared.Event.the-variants.{Tau as τ, Tick as ✓, Visible as visible}
+use Rattle.rules.specs.Process.{one, two, three, four, Address, choice, together, Process, leaf, prefix}
+use Rattle.rules.specs.Process.{internal, split, sequence, Ω, ⊥′, rhs}
 use Rattle.rules.specs.Track.{At, Outcome, labelled, prefixed, first-eval, inside, around, right-eval}
 use Rattle.rules.specs.Track.{right-inside, jointly, carried, started, ended}
 

@@ -11,7 +11,7 @@ use lib.ListN.{length}
 use lib.Dec.{eqb}
 use borrow.Author.Tests.{eq-eqb, ne-eqb}
 use Rattle.terms.specs.Term.{Term}
-use Rattle.rules.specs.Process.{Event, τ, ✓, visible, Digit, one, two, three, four, Address}
+use Rattle.rules.specs.Process.{Digit, one, two, three, four, Address}
 use Rattle.rules.specs.Track.{Outcome}
 use Rattle.rules.specs.Step.{Stepped as Come, stepped as come, step}
 use Rattle.rules.specs.Run.{State, stands, after, within-room, whole, answer, goes-on}
@@ -26,7 +26,7 @@ use Rattle.weighing.proofs.Told.{number, From, weight-of, digit-none, from-left
 use Rattle.counting.specs.code.Counting.{reference, cells as cell-count, arcs}
 use Rattle.runs.specs.code.Doors.{start-weight, control-levels, Stepped, weight, refused, accepted}
 use Rattle.runs.specs.code.Doors.{by-room, by-weight, stepped}
-use Rattle.runs.specs.words.Held.{Table, Holds, addressed, told-event, told, behind}
+use Rattle.runs.specs.words.Held.{Table, Holds, addressed, told, behind}
 use Rattle.rules.specs.Addressed.{digit-of, answered}
 use Rattle.runs.proofs.Reading.{address-reads, address-stops}
 use Rattle.runs.proofs.Stopping.{Stops, stops-either, reference-stops}
@@ -34,13 +34,6 @@ use Rattle.runs.proofs.Rooms.{rooms-told}
 use Rattle.runs.proofs.Weights.{weighed}
 use Rattle.runs.proofs.Keeping.{behind-holds}
 use Rattle.runs.proofs.Performing.{performs}
-
--- events are told as a weight tells them
-event-told : (e : Event) → Told.told e ≡ told-event e
-unfolding Told.told told-event
-event-told τ = refl
-event-told ✓ = refl
-event-told (visible n) = refl
 
 -- a digit is not 0
 number-some : (d : Digit) → number d ≡ 0 → ⊥
@@ -78,7 +71,7 @@ module _ (l : Layout) (p x : List ℕ) (ts : List Term) (count : ℕ) (ds : List
         let named = step-exactly ts (s .process) (stands s) a r .0 steps in
         let done = performs l p x ts count ds w g c a from _ table s held steps named reached in
         record {
-          answer-is = rw (done .goes .matches .event-is, event-told (r .event));
+          answer-is = rw (done .goes .matches .event-is);
           holds = behind-holds l p x ts count w g c s held a _ _ accepts (done .goes) (done .rests) (done .keeps);
         }
     by-rooms r steps (suc n) room = refuses (suc n)

@@ -12,7 +12,8 @@ use borrow.Author.Tests.{eqb-true}
 use Rattle.lines.specs.Line.{choose}
 use Rattle.terms.specs.Term.{Term}
 use Rattle.places.specs.Place.{Place, left-path}
-use Rattle.rules.specs.Process.{τ, Address, main, untouched, right-side, rhs}
+use Rattle.rules.specs.declared.Event.the-variants.{Tau as τ}
+use Rattle.rules.specs.Process.{Address, main, untouched, right-side, rhs}
 use Rattle.rules.specs.Track as Track
 use Rattle.rules.specs.Step.{Stepped}
 use Rattle.rules.specs.Run.{start, stands}
@@ -22,7 +23,7 @@ use Rattle.plans.specs.words.Plan.{Layout}
 use Rattle.control.specs.words.Control.{label, state, resting, Untouched}
 use Rattle.control.specs.words.Control as Control
 use Rattle.control.proofs.Capped.{capped-small}
-use Rattle.weighing.proofs.Told.{told, From, from-at}
+use Rattle.weighing.proofs.Told.{From, from-at}
 use Rattle.drawing.specs.code.Drawing.{one-node, one-arc, drawn, labelled, standing}
 use Rattle.control.specs.words.Views.{place-told, marked}
 use Rattle.leaves.specs.code.Leaves.{called, on}
@@ -122,7 +123,7 @@ module _ (l : Layout) (p x : List ℕ) (ts : List Term) (count : ℕ) (ds w g c 
 
   pub call-goes : (a : Address) → From ds count 0 a
       → Goes l p x count 0 0 main (run-words w g c) (call-of a) (called (tally-of c) w g)
-  unfolding called on one-node one-arc drawn tally-of told Track.labelled
+  unfolding called on one-node one-arc drawn tally-of Track.labelled
   call-goes a from =
       let t = holds .tells in
       record {

@@ -13,8 +13,8 @@ use Rattle.kinds.specs.Kind as Kind
 use Rattle.plans.specs.words.Plan.{kind, operand, second, around}
 use Rattle.control.specs.words.Words.{node}
 use Rattle.control.specs.words.Control.{state, term, resting, entered, at-end}
-use Rattle.control.specs.declared.Event.{Event}
-use Rattle.control.specs.declared.Event.the-variants.{Tau, Tick, Visible}
+use Rattle.rules.specs.declared.Event.{Event}
+use Rattle.rules.specs.declared.Event.the-variants.{Tau, Tick, Visible}
 use Rattle.control.specs.words.Sums.{capped}
 use Rattle.weights.specs.code.Rules.{step, started, settled, by-leaf, entering, end-of, barred, stays}
 use Rattle.weights.specs.code.Rules.{resized, agree, one, both, ended}

@@ -25,7 +25,7 @@ use Rattle.weighing.specs.code.Weigh.{at-reference}
 use Rattle.looking.specs.code.Looking as Looking
 use Rattle.control.proofs.Capped.{capped-small}
 use Rattle.weighing.proofs.Told as Told
-use Rattle.weighing.proofs.Told.{told, From, weight-of, from-at}
+use Rattle.weighing.proofs.Told.{From, weight-of, from-at}
 use Rattle.weighing.proofs.Since.{Leads, counted, rooted-below}
 use Rattle.weighing.proofs.TermTold.{planned-levels, untouched-cells}
 use Rattle.weighing.proofs.ControlTold.{whole-told}
@@ -60,7 +60,7 @@ module _ (l : Layout) (p x : List ℕ) (ts : List Term) (count : ℕ) (ds w g c 
   -- the start's call
   start-weighed : (a : Address) → From ds count 0 a
       → start-weight ≡ weight-of count (step ts main (stands start) a)
-  unfolding weight-of Told.weight told step labelled
+  unfolding weight-of Told.weight step labelled
   start-weighed a from = rw (
     from-at ds count 0 a from,
     rhs-cells 0 (getElem? ts 0),

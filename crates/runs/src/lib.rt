@@ -1,6 +1,11 @@
 // Runs: started, and stepped by an address. A step is weighed first, and only one that has a derivation and fits the rooms is
 // taken, so that a refused one leaves every word as it was.
-use control::Event;
+use columns::Payloads;
+use control::Counters;
+use control::NODE_WORDS;
+use control::Nodes;
+use control::TRACK_WORDS;
+use control::Track;
 use counting::ARCS;
 use counting::CELLS;
 use counting::REFERENCE;
@@ -10,6 +15,10 @@ use counting::recount;
 use counting::tally_of;
 use leaves::Taken;
 use leaves::call_start;
+use lines::NO_DERIVATION;
+use plans::Plan;
+use rules::Event;
+use scripts::Digits;
 use stepping::take;
 use weighing::weigh_at;
 use weights::Weighed;
@@ -24,9 +33,6 @@ const CONTROL_LEVELS: usize = 1025;
 
 const STEP_LEVELS: usize = 2048;
 
-// The number of the refusal where no derivation has the address.
-const NO_DERIVATION: u8 = 7;
-
 // What an accepted step shows.
 pub struct Shown {
     pub event: Event,
@@ -39,14 +45,14 @@ pub enum Answer {
 }
 
 // Starts a run: control is the call of definition 00 at reference 0, and nothing is marked yet.
-pub fn start(nodes: &mut [u16; 65544], track: &mut [u16; 28672], counters: &mut [u16; 8])
+pub fn start(nodes: &mut Nodes, track: &mut Track, counters: &mut Counters)
     ensures { λ _. ⌜ now (nodes .exit) ≡ spec.fresh-nodes ⌝ }
     ensures { λ _. ⌜ now (track .exit) ≡ spec.fresh-track ⌝ }
     ensures { λ _. ⌜ now (counters .exit) ≡ spec.fresh-counters ⌝ }
     ensures { λ _. ⌜ Begins (now (nodes .exit)) (now (track .exit)) (now (counters .exit)) ⌝ }
 {
-    *nodes = [0u16; 65544];
-    *track = [0u16; 28672];
+    *nodes = [0u16; NODE_WORDS];
+    *track = [0u16; TRACK_WORDS];
     *counters = [0u16, 1, 1, 0, 0, 0, 0, 0];
 }
 
@@ -54,12 +60,12 @@ pub fn start(nodes: &mut [u16; 65544], track: &mut [u16; 28672], counters: &mut 
 // and they hold the run behind it.
 pub fn step(
     count: usize,
-    digits: &[u8; 1024],
-    plan: &[u16; 4096],
-    sets: &[u64; 1024],
-    nodes: &mut [u16; 65544],
-    track: &mut [u16; 28672],
-    counters: &mut [u16; 8],
+    digits: &Digits,
+    plan: &Plan,
+    sets: &Payloads,
+    nodes: &mut Nodes,
+    track: &mut Track,
+    counters: &mut Counters,
 ) -> Answer
     ensures { λ r. ⌜ r ≡ spec.stepped (now (plan .entry)) (now (sets .entry)) count (now (digits .entry))
         (now (nodes .entry)) (now (track .entry)) (now (counters .entry)) .answer ⌝ }
@@ -93,12 +99,12 @@ pub fn step(
 // Weighs the step that an address names.
 fn weigh(
     count: usize,
-    digits: &[u8; 1024],
-    plan: &[u16; 4096],
-    sets: &[u64; 1024],
-    nodes: &[u16; 65544],
-    track: &[u16; 28672],
-    counters: &[u16; 8],
+    digits: &Digits,
+    plan: &Plan,
+    sets: &Payloads,
+    nodes: &Nodes,
+    track: &Track,
+    counters: &Counters,
 ) -> Weighed
     ensures { λ r. ⌜ r ≡ spec.weight (now (plan .entry)) (now (sets .entry)) count (now (digits .entry))
         (now (nodes .entry)) (now (track .entry)) (now (counters .entry)) ⌝ }
@@ -144,11 +150,11 @@ fn start_weight() -> Weighed
 // Takes the step that an address names.
 fn perform(
     count: usize,
-    digits: &[u8; 1024],
-    plan: &[u16; 4096],
-    nodes: &mut [u16; 65544],
-    track: &mut [u16; 28672],
-    counters: &[u16; 8],
+    digits: &Digits,
+    plan: &Plan,
+    nodes: &mut Nodes,
+    track: &mut Track,
+    counters: &Counters,
 ) -> Taken
     ensures { λ r. ⌜ r ≡ spec.performed (now (plan .entry)) count (now (digits .entry))
         (now (nodes .entry)) (now (track .entry)) (now (counters .entry)) .taken ⌝ }

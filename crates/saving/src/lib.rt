@@ -1,6 +1,20 @@
 // Tracks saved: a run's track becomes lines of hexadecimal in a lent slice, numbered by the walk.
+use columns::After;
+use columns::Kinds;
+use columns::Owners;
+use columns::Roots;
 use columns::wide;
+use control::Counters;
 use control::LABEL;
+use control::Nodes;
+use control::REFERENCE_WORDS;
+use control::REFERENCES;
+use control::Track;
+use counting::ARCS;
+use counting::FRESH;
+use counting::MEETINGS;
+use links::Column;
+use links::SideWords;
 use links::at_most;
 use numbering::number;
 use writing::Saved;
@@ -13,36 +27,24 @@ ghost use Rattle.writing.specs.words.Slice.{answer, left};
 ghost use Rattle.saving.specs.code.Saving as of;
 ghost use Rattle.saving.specs.words.Kept.{Saves};
 
-const REFERENCES: usize = 8193;
-
-// Words of a reference.
-const NODE_WORDS: usize = 8;
-
-// The counters of a run.
-const FRESH: usize = 1;
-
-const ARCS: usize = 4;
-
-const MEETINGS: usize = 5;
-
 // Saves a run into a slice: the text's length, or refusal 12 with the length that it would have. `Short` leaves the slice as
 // it was, and bytes past the text keep their content. `labels` and `graph` hold the numbered graph afterwards; the other five
 // are scratch, and all 0 afterwards.
 pub fn save(
-    kinds: &[u8; 1024],
-    owners: &[u8; 1024],
-    after: &[u16; 1024],
-    roots: &[u16; 64],
-    nodes: &[u16; 65544],
-    track: &[u16; 28672],
-    counters: &[u16; 8],
-    labels: &mut [u16; 8193],
-    graph: &mut [u16; 28672],
-    marks: &mut [u16; 8193],
-    sides: &mut [u16; 16388],
-    pending: &mut [u16; 16388],
-    numbers: &mut [u16; 8193],
-    spare: &mut [u16; 28672],
+    kinds: &Kinds,
+    owners: &Owners,
+    after: &After,
+    roots: &Roots,
+    nodes: &Nodes,
+    track: &Track,
+    counters: &Counters,
+    labels: &mut Column,
+    graph: &mut Track,
+    marks: &mut Column,
+    sides: &mut SideWords,
+    pending: &mut SideWords,
+    numbers: &mut Column,
+    spare: &mut Track,
     text: &mut [u8],
 ) -> Saved
     ensures { λ r. ⌜ r ≡ answer (of.text-of (now (kinds .entry)) (now (owners .entry)) (now (after .entry))
@@ -79,19 +81,19 @@ pub fn save(
         numbers,
         spare,
     );
-    *marks = [0u16; 8193];
+    *marks = [0u16; REFERENCES];
     write(counts, labels, graph, kinds, owners, after, roots, text)
 }
 
 // Takes the marks of the first so many references from a run's nodes into a column.
-fn take_marks(count: usize, nodes: &[u16; 65544], column: &mut [u16; 8193])
+fn take_marks(count: usize, nodes: &Nodes, column: &mut Column)
     requires { ⌜ count ≤ 8193 ⌝ }
     ensures { λ _. ⌜ now (column .exit) ≡ laid (of.marks-from (now (nodes .entry)) 0 count) ⌝ }
 {
-    *column = [0u16; 8193];
+    *column = [0u16; REFERENCES];
     let mut n: usize = 0;
     while n < count {
-        column[n] = nodes[NODE_WORDS * n + LABEL];
+        column[n] = nodes[REFERENCE_WORDS * n + LABEL];
         n += 1;
     }
 }

@@ -1,6 +1,9 @@
 // A script's lines: each asks for a step by an address, whose digits go into a lent array.
 // It relies on the line finder for where a line ends and what its bytes are.
 use lines::Line;
+use lines::NO_LINE;
+use lines::OUT_OF_RANGE;
+use lines::WRONG_FRAME;
 use lines::characters;
 use lines::next_line;
 use numbers::byte;
@@ -15,26 +18,24 @@ ghost use Rattle.lines.specs.Line.{lines, bytes};
 ghost use Rattle.scripts.specs.Script.{most, digits as behind, all-digits, asked, answer, left};
 ghost use Rattle.scripts.specs.code.Answers.{without-line, refusal};
 
-// The tag of a script's frame, `20`.
-const STEP: u8 = 32;
+// First byte of a script's frame.
+pub const STEP_FRAME: u8 = 0x20;
+
+// The most digits of an address, and the room of a script's text.
+pub const DIGIT_ROOM: usize = 1024;
+
+pub const SCRIPT_TEXT_ROOM: usize = 65536;
+
+// The digits of an address, in front of what stood there.
+pub type Digits = [u8; DIGIT_ROOM];
 
 // How many bytes stand before the digits: `20 llll`.
 const HEAD: usize = 3;
-
-// The most digits that an address has.
-const MOST: usize = 1024;
 
 // The lowest and the highest digit.
 const LOWEST: u8 = 1;
 
 const HIGHEST: u8 = 4;
-
-// The numbers of the refusals: not a line; wrong frame or length; a number outside its range.
-const NO_LINE: u8 = 1;
-
-const WRONG_FRAME: u8 = 2;
-
-const OUT_OF_RANGE: u8 = 3;
 
 // What the next line of a script asks for: a step, by an address of `count` digits, with the next line from
 // `next` on; the number of the line's refusal; or nothing, at the end of the script.
@@ -46,7 +47,7 @@ pub enum Step {
 
 // The next line of a script from a cursor. Its digits go to the front of `digits`; a refusal
 // leaves the array as it was.
-pub fn next_step(text: &[u8], at: usize, digits: &mut [u8; 1024]) -> Step
+pub fn next_step(text: &[u8], at: usize, digits: &mut Digits) -> Step
     ensures { λ r. ⌜ r ≡ answer at (lines (drop at (now (text .entry)))) ⌝ }
     ensures { λ _. ⌜ now (digits .exit)
         ≡ sets (now (digits .entry)) 0 (left (lines (drop at (now (text .entry))))) ⌝ }
@@ -84,14 +85,14 @@ fn judge(chars: &[u8]) -> u8
     if n < HEAD {
         return WRONG_FRAME;
     }
-    if byte(chars, 0) != STEP {
+    if byte(chars, 0) != STEP_FRAME {
         return WRONG_FRAME;
     }
     let count = n - HEAD;
     if number(&chars[2..6]) != count as u64 {
         return WRONG_FRAME;
     }
-    if MOST < count {
+    if DIGIT_ROOM < count {
         return OUT_OF_RANGE;
     }
     if !digits_fit(chars) {
@@ -120,7 +121,7 @@ fn digits_fit(chars: &[u8]) -> bool
 }
 
 // The digits of a line that has `count` of them, at the front of the array.
-fn write_digits(chars: &[u8], count: usize, digits: &mut [u8; 1024])
+fn write_digits(chars: &[u8], count: usize, digits: &mut Digits)
     requires { ⌜ count ≤ most ⌝ }
     ensures { λ _. ⌜ ((bs : List ℕ) → bytes (now (chars .entry)) ≡ some bs → length (behind bs) ≡ count
         → now (digits .exit) ≡ sets (now (digits .entry)) 0 (behind bs)) ⌝ }

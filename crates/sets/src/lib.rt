@@ -1,5 +1,6 @@
 // Sets of events, each promise told by members, so that nothing above knows how a set stands in its words.
 // It relies on the definition of a set in frames.
+use frames::MOST_EVENTS;
 ghost use mathlib.Core.Path.{_≡_};
 ghost use mathlib.Core.Bool.{_&&_, _||_};
 ghost use lib.Dec.{eqb, ltb};
@@ -7,13 +8,11 @@ ghost use Rattle.sets.specs.EventSet.{member};
 ghost use Rattle.frames.specs.TableFrame.{event-room};
 ghost use Rattle.sets.specs.Told.{SetOf, shown, Emptiness};
 
-const EVENT_ROOM: u8 = 64;
-
 // Whether an event is in a set.
 pub fn has(set: u64, event: u8) -> bool
     ensures { λ r. ⌜ r ≡ member event set ⌝ }
 {
-    if EVENT_ROOM <= event {
+    if MOST_EVENTS <= event {
         return false;
     }
     (set >> event) % 2 == 1
@@ -23,7 +22,7 @@ pub fn has(set: u64, event: u8) -> bool
 pub fn only(event: u8) -> u64
     ensures { λ s. ⌜ SetOf (λ k. ltb event event-room && eqb k event) s ⌝ }
 {
-    if EVENT_ROOM <= event {
+    if MOST_EVENTS <= event {
         return 0;
     }
     1u64 << event

@@ -1,6 +1,14 @@
 // The reader's rules, tested on a graph in columns: each in a function of its own. It relies on the words of a track, and on
 // the numbering walk.
+use columns::After;
+use columns::Kinds;
+use columns::Payloads;
+use control::MEETINGS_FROM;
+use control::Track;
 use control::track_word;
+use frames::TERM_ROOM;
+use links::Column;
+use links::SideWords;
 use links::link;
 use links::reference_word;
 use walks::walk;
@@ -18,25 +26,20 @@ ghost use Rattle.links.specs.words.Columns.{at};
 ghost use Rattle.walks.specs.code.Walked.{laid};
 ghost use Rattle.shapes.specs.code.Rules as of;
 
-// Where the meetings begin in a track.
-const MEETINGS_FROM: usize = 16384;
-
-const TERMS: usize = 1024;
-
 // Whether a graph has the shape of a saved track. The last four are scratch.
 pub fn has_shape(
     nodes: usize,
     arcs: usize,
     meetings: usize,
-    kinds: &[u8; 1024],
-    payloads: &[u64; 1024],
-    after: &[u16; 1024],
-    labels: &[u16; 8193],
-    graph: &[u16; 28672],
-    sides: &mut [u16; 16388],
-    pending: &mut [u16; 16388],
-    numbers: &mut [u16; 8193],
-    walked: &mut [u16; 8193],
+    kinds: &Kinds,
+    payloads: &Payloads,
+    after: &After,
+    labels: &Column,
+    graph: &Track,
+    sides: &mut SideWords,
+    pending: &mut SideWords,
+    numbers: &mut Column,
+    walked: &mut Column,
 ) -> bool
     requires { ⌜ (nodes ≤ 4096) × (arcs ≤ 8192) × (meetings ≤ 4096) ⌝ }
     ensures { λ r. ⌜ ((marks : List ℕ) (g : Graph) → now (labels .entry) ≡ laid marks → length marks ≡ nodes
@@ -66,7 +69,7 @@ pub fn has_shape(
 }
 
 // Whether each node has a mark.
-fn all_marked(nodes: usize, labels: &[u16; 8193]) -> bool
+fn all_marked(nodes: usize, labels: &Column) -> bool
     ensures { λ r. ⌜ r ≡ every (λ k. not (eqb (at (now (labels .entry)) k) 0)) (from-on 0 nodes) ⌝ }
 {
     let mut k: usize = 0;
@@ -80,7 +83,7 @@ fn all_marked(nodes: usize, labels: &[u16; 8193]) -> bool
 }
 
 // Whether so many pairs, from a word on, ascend by their first number, then their second.
-fn ascend(base: usize, count: usize, graph: &[u16; 28672]) -> bool
+fn ascend(base: usize, count: usize, graph: &Track) -> bool
     requires { ⌜ (base ≤ 16384) × (count ≤ 8192) ⌝ }
     ensures { λ r. ⌜ r ≡ ascends (pairs base (now (graph .entry)) 0 count) ⌝ }
 {
@@ -103,7 +106,7 @@ fn ascend(base: usize, count: usize, graph: &[u16; 28672]) -> bool
 }
 
 // Whether the walk has given each node the number that it has.
-fn in_order(nodes: usize, numbers: &[u16; 8193]) -> bool
+fn in_order(nodes: usize, numbers: &Column) -> bool
     ensures { λ r. ⌜ r ≡ every (λ k. eqb (at (now (numbers .entry)) k) (k + 1)) (from-on 0 nodes) ⌝ }
 {
     let mut k: usize = 0;
@@ -117,12 +120,7 @@ fn in_order(nodes: usize, numbers: &[u16; 8193]) -> bool
 }
 
 // Whether so many meetings join event nodes of one event, the lower number first.
-fn join_events(
-    meetings: usize,
-    labels: &[u16; 8193],
-    graph: &[u16; 28672],
-    payloads: &[u64; 1024],
-) -> bool
+fn join_events(meetings: usize, labels: &Column, graph: &Track, payloads: &Payloads) -> bool
     requires { ⌜ meetings ≤ 4096 ⌝ }
     ensures { λ r. ⌜ r ≡ (every upward (pairs 16384 (now (graph .entry)) 0 meetings)
         && every (λ (a : Pair). of.one-event (now (payloads .entry)) (at (now (labels .entry)) (a .from))
@@ -149,7 +147,7 @@ fn join_events(
 }
 
 // Whether two marks are of events, and of one.
-fn of_one_event(first: usize, second: usize, payloads: &[u64; 1024]) -> bool
+fn of_one_event(first: usize, second: usize, payloads: &Payloads) -> bool
     ensures { λ r. ⌜ r ≡ of.one-event (now (payloads .entry)) first second ⌝ }
 {
     if !is_event(first) {
@@ -172,10 +170,10 @@ fn is_event(mark: usize) -> bool
 }
 
 // The event of such a mark.
-fn event_at(mark: usize, payloads: &[u64; 1024]) -> u64
+fn event_at(mark: usize, payloads: &Payloads) -> u64
     requires { ⌜ 3 ≤ mark ⌝ }
     ensures { λ r. ⌜ r ≡ of.event-at (now (payloads .entry)) mark ⌝ }
 {
     let term = (mark - 3) / 2;
-    if term < TERMS { payloads[term] } else { 0 }
+    if term < TERM_ROOM { payloads[term] } else { 0 }
 }

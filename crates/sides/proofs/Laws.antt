@@ -9,7 +9,7 @@ use Rattle.plans.specs.words.Plan.{kind}
 use Rattle.control.specs.words.Words.{node, put}
 use Rattle.control.specs.words.Control.{term, frame, resting}
 use Rattle.control.specs.words.Control as Control
-use Rattle.control.specs.declared.Event.{Event}
+use Rattle.rules.specs.declared.Event.{Event}
 use Rattle.control.specs.words.Sums.{capped}
 use Rattle.weights.specs.code.Rules.{stays, shown}
 use Rattle.drawing.specs.code.Drawing.{labelled, standing, one-arc, drawn, with-arc, Kept, met-all}

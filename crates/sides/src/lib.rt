@@ -1,10 +1,12 @@
 // The sides of an entered choice or parallel: entering them, and what their steps make of it.
 use control::ENTERED;
 use control::FRAME;
+use control::Nodes;
 use control::SIDES;
 use control::SIZES;
 use control::STATE;
 use control::TERM;
+use control::Track;
 use control::UNTOUCHED;
 use control::less;
 use control::put;
@@ -18,6 +20,7 @@ use drawing::stand;
 use leaves::Taken;
 use leaves::own_mark;
 use leaves::settle;
+use plans::Plan;
 use plans::kind_of;
 use weights::shown;
 use weights::stays;
@@ -26,7 +29,7 @@ ghost use Prim.Native.Nat.{_≤_};
 ghost use Rattle.sides.specs.code.Sides as spec;
 
 // A choice or parallel is entered, neither side yet: its node is labelled.
-pub fn enter(n: usize, t: usize, tally: Tally, nodes: &mut [u16; 65544]) -> Tally
+pub fn enter(n: usize, t: usize, tally: Tally, nodes: &mut Nodes) -> Tally
     ensures { λ r. ⌜ r ≡ spec.one-node tally ⌝ }
     ensures { λ _. ⌜ now (nodes .exit) ≡ spec.entered n t (now (nodes .entry)) ⌝ }
 {
@@ -43,8 +46,8 @@ pub fn enter_side(
     t: usize,
     frame: usize,
     tally: Tally,
-    nodes: &mut [u16; 65544],
-    track: &mut [u16; 28672],
+    nodes: &mut Nodes,
+    track: &mut Track,
 ) -> Tally
     requires { ⌜ side ≤ 2 ⌝ }
     ensures { λ r. ⌜ r ≡ spec.side-tally n side tally (now (nodes .entry)) ⌝ }
@@ -62,7 +65,7 @@ pub fn enter_side(
 }
 
 // Puts a side that has stepped back.
-pub fn put_side(n: usize, side: usize, reference: usize, size: usize, nodes: &mut [u16; 65544])
+pub fn put_side(n: usize, side: usize, reference: usize, size: usize, nodes: &mut Nodes)
     requires { ⌜ side ≤ 2 ⌝ }
     ensures { λ _. ⌜ now (nodes .exit) ≡ spec.put-side n side reference size (now (nodes .entry)) ⌝ }
 {
@@ -79,9 +82,9 @@ pub fn close_one(
     own: usize,
     other: usize,
     done: Taken,
-    plan: &[u16; 4096],
-    nodes: &mut [u16; 65544],
-    track: &mut [u16; 28672],
+    plan: &Plan,
+    nodes: &mut Nodes,
+    track: &mut Track,
 ) -> Taken
     requires { ⌜ side ≤ 2 ⌝ }
     ensures { λ r. ⌜ r ≡ spec.one (now (plan .entry)) n side bound size own other done (now (nodes .entry)) (now (track .entry)) .taken ⌝ }
@@ -123,8 +126,8 @@ pub fn close_both(
     met: usize,
     done: Taken,
     across: Taken,
-    nodes: &mut [u16; 65544],
-    track: &mut [u16; 28672],
+    nodes: &mut Nodes,
+    track: &mut Track,
 ) -> Taken
     ensures { λ r. ⌜ r ≡ spec.both n size own other met done across (now (nodes .entry)) (now (track .entry)) .taken ⌝ }
     ensures { λ _. ⌜ now (nodes .exit) ≡ spec.both n size own other met done across (now (nodes .entry)) (now (track .entry)) .nodes ⌝ }

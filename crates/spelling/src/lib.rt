@@ -1,5 +1,6 @@
 // Bytes spelled as hexadecimal in a lent slice: each function puts its characters from a cursor on, and tells
 // where they end. Past the end of the slice nothing is put. It relies on the definitions of `lines` alone.
+use lines::LF;
 ghost use mathlib.Core.Path.{_≡_};
 ghost use mathlib.Core.List.{[], _∷_};
 ghost use Prim.Native.Nat.{_<_, _≤_};
@@ -7,8 +8,6 @@ ghost use lib.ListN.{set};
 ghost use Rattle.lines.specs.Line.{hex, character, two};
 ghost use Rattle.lines.specs.Line as line;
 ghost use Rattle.spelling.specs.Puts.{Puts};
-
-const LF: u8 = 10;
 
 // A number of two bytes.
 pub fn put_number(at: usize, n: usize, out: &mut [u8]) -> usize

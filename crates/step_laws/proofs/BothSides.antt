@@ -9,7 +9,8 @@ use native.Mathlib.Omega.{arith}
 use lib.ListN.{length, length-append}
 use Rattle.terms.specs.Term.{Term}
 use Rattle.places.specs.Place.{Place}
-use Rattle.rules.specs.Process.{visible, Address, together, Process, split, cells}
+use Rattle.rules.specs.declared.Event.the-variants.{Visible as visible}
+use Rattle.rules.specs.Process.{Address, together, Process, split, cells}
 use Rattle.rules.specs.Track.{Pair, At, Entered, Outcome, first-eval, beside, meet, jointly}
 use Rattle.rules.specs.Step.{Stepped}
 use Rattle.rules.proofs.Marked.{one-same}
@@ -18,7 +19,6 @@ use Rattle.plans.specs.words.Plan.{Layout}
 use Rattle.control.specs.words.Words.{node, event-node}
 use Rattle.control.specs.words.Control.{term, frame}
 use Rattle.control.specs.words.Sums.{capped}
-use Rattle.weighing.proofs.Told.{told}
 use Rattle.drawing.specs.code.Drawing.{Kept, met-all}
 use Rattle.control.specs.words.Views.{arcs-of, meetings-of, event-nodes}
 use Rattle.leaves.specs.code.Leaves.{Done, with-words, come}
@@ -198,7 +198,7 @@ module _ {l : Layout} {p x : List ℕ} {count : ℕ} {ts : List Term} {n b : ℕ
           (capped (size - node 6 (u .nodes) n - node 7 (u .nodes) n + d .taken .size) + g .taken .size)
 
       abbrev joint-done : Done
-      joint-done = with-words (come (told (visible e)) n joint-size (g .taken .at) (met-words .tally))
+      joint-done = with-words (come (visible e) n joint-size (g .taken .at) (met-words .tally))
           (behind-both .nodes)
           (met-words .track)
 

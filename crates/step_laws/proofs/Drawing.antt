@@ -12,8 +12,10 @@ use borrow.Author.Tests.{ne-eqb, lt-ltb, ltb-true, ltb-false}
 use Rattle.lines.specs.Line.{choose}
 use Rattle.terms.specs.Term.{call, SKIP, STOP, Term}
 use Rattle.places.specs.Place.{Place}
-use Rattle.rules.specs.Process.{Event, τ, ✓, Address, Split, choice, together, Process, leaf, prefix}
-use Rattle.rules.specs.Process.{internal, split, sequence, Ω, ⊥′}
+use Rattle.rules.specs.declared.Event.{Event}
+use Rattle.rules.specs.declared.Event.the-variants.{Tau as τ, Tick as ✓}
+use Rattle.rules.specs.Process.{Address, Split, choice, together, Process, leaf, prefix, internal, split}
+use Rattle.rules.specs.Process.{sequence, Ω, ⊥′}
 use Rattle.rules.specs.Track.{Label, At, Outcome, Entered, labelled, prefixed, first-eval, inside, around}
 use Rattle.rules.specs.Track.{beside, right-eval, right-inside, jointly, carried, started, ended, lookup}
 use Rattle.rules.specs.Tracking.{Shows, passes, hides-τ, hides-✓, Tracks, process-call, prefixing, skip, stop}

@@ -16,8 +16,10 @@ use Rattle.sets.specs.EventSet.{member}
 use Rattle.terms.specs.Term.{Term, external, parallel}
 use Rattle.terms.specs.Term as Term
 use Rattle.places.specs.Place.{Place}
-use Rattle.rules.specs.Process.{Event, τ, ✓, visible, Address, Split, choice, together, Process, leaf, prefix}
-use Rattle.rules.specs.Process.{internal, split, sequence, Ω, ⊥′, below, joined, untouched, cells}
+use Rattle.rules.specs.declared.Event.{Event}
+use Rattle.rules.specs.declared.Event.the-variants.{Tau as τ, Tick as ✓, Visible as visible}
+use Rattle.rules.specs.Process.{Address, Split, choice, together, Process, leaf, prefix, internal, split}
+use Rattle.rules.specs.Process.{sequence, Ω, ⊥′, below, joined, untouched, cells}
 use Rattle.rules.specs.Track.{At, Outcome, labelled, prefixed, first-eval, around, jointly, carried, started}
 use Rattle.rules.specs.Track.{ended}
 use Rattle.rules.specs.Tracking.{Tracks, Visible, process-call, prefixing, skip, stop, internal-choice-1}
@@ -35,7 +37,6 @@ use Rattle.control.proofs.Framed.{around-lasting}
 use Rattle.control.proofs.Chains.{holds-dropped}
 use Rattle.control.specs.words.Sums.{capped}
 use Rattle.weights.specs.code.Rules.{stays, shown}
-use Rattle.weighing.proofs.Told.{told}
 use Rattle.sides.specs.code.Sides as Sides
 use Rattle.leaves.specs.code.Leaves.{Done, with-words, come}
 use Rattle.control.specs.words.Views.{marked, place-told, first-of}
@@ -114,8 +115,8 @@ visible-lives e (synchronized-parallelism-3 d d′ t t′ i c) h q z = let c : _
 visible-lives e (synchronized-parallelism-4 t t′) h q z = let c : _≡_ {A = ℕ} 0 1 = cc in omega arith
 
 -- a choice does not stay on what is seen
-seen-leaves : (e : Event) → Visible e → stays (split-kind choice) (told e) ≡ false
-unfolding stays told split-kind
+seen-leaves : (e : Event) → Visible e → stays (split-kind choice) e ≡ false
+unfolding stays split-kind
 seen-leaves τ h = absurd h
 seen-leaves ✓ h = refl
 seen-leaves (visible e) h = refl
@@ -171,7 +172,7 @@ module _ {l : Layout} {p x : List ℕ} {count : ℕ} {ts : List Term} {s : Side}
 
     abbrev dropped-done : Done
     dropped-done = with-words
-        (come (told (r .event)) (d .taken .reference) (capped dropped-size) (d .taken .at) (d .taken .tally))
+        (come (r .event) (d .taken .reference) (capped dropped-size) (d .taken .at) (d .taken .tally))
         (d .nodes) (d .track)
 
     drops-ends : Ends l p x count n b (term (u .nodes) n) (frame (u .nodes) n) ks (whole h) u
@@ -251,7 +252,7 @@ module _ {l : Layout} {p x : List ℕ} {count : ℕ} {ts : List Term} {s : Side}
       → size ≡ length ks + suc (cells P + cells Q) → size ≤ 4096 → (z : Stepped) (e : Event)
       → y .outcome .event ≡ e
       → made-by s n v choice m o Q c u y e ≡ some z → Closes l p x count n b ks (whole h) u z (one-code h size)
-  unfolding one-side stays shown told split-kind
+  unfolding one-side stays shown split-kind
   choice-goes h size is-size few z τ e g = closes-as z g
       (stays-closes h size is-size few τ (rw e) (rw e) (λ q. let c : _≡_ {A = ℕ} 0 1 = cc in omega arith))
   choice-goes h size is-size few z ✓ e g =
@@ -266,7 +267,7 @@ module _ {l : Layout} {p x : List ℕ} {count : ℕ} {ts : List Term} {s : Side}
       → y .outcome .event ≡ e
       → made-by s n v (together f) m o Q c u y e ≡ some z → Closes l p x count n b ks (whole h) u z
       (one-code h size)
-  unfolding one-side stays shown told split-kind
+  unfolding one-side stays shown split-kind
   parallel-goes f h size is-size few z τ e g = closes-as z g
       (stays-closes h size is-size few τ (rw e) (rw e) (λ q. let c : _≡_ {A = ℕ} 0 1 = cc in omega arith))
   parallel-goes f h size is-size few z ✓ e g = closes-as z g

@@ -18,9 +18,8 @@ use Rattle.plans.specs.words.Plan.{Layout}
 use Rattle.control.specs.words.Words.{node}
 use Rattle.control.specs.words.Control.{term, frame, at-end}
 use Rattle.control.proofs.Framed.{around-lasting}
-use Rattle.control.specs.declared.Event.the-variants.{Tick}
+use Rattle.rules.specs.declared.Event.the-variants.{Tick}
 use Rattle.control.specs.words.Sums.{capped}
-use Rattle.weighing.proofs.Told.{told}
 use Rattle.drawing.specs.code.Drawing.{Kept, joined, drawn, standing}
 use Rattle.control.specs.words.Views.{arcs-of}
 use Rattle.leaves.specs.code.Leaves.{Done, with-words, come, end}
@@ -126,7 +125,7 @@ module _ {l : Layout} {p x : List ℕ} {count : ℕ} {n b : ℕ} {ks : List ℕ}
 
       end-ends : Ends l p x count n b (term w n) (frame w n) ks (split v (together f) m o Ω Ω) u ended-here
           end-done
-      unfolding ended told cells
+      unfolding ended cells
       end-ends =
           let was = h .there .splits in
           let writes = end-writes (λ j. held j n (split v (together f) m o Ω Ω)) in

@@ -6,7 +6,8 @@ use Prim.Native.Nat.{ℕ, _+_, _-_, _≤_, _<_}
 use mathlib.Core.Path.{_≡_}
 use mathlib.Core.List.{List, []}
 use lib.ListN.{length}
-use Rattle.rules.specs.Process.{✓, Process, Ω, cells}
+use Rattle.rules.specs.declared.Event.the-variants.{Tick as ✓}
+use Rattle.rules.specs.Process.{Process, Ω, cells}
 use Rattle.rules.specs.Track.{At, Outcome}
 use Rattle.rules.specs.Step.{Stepped}
 use Rattle.rules.proofs.Climbing.{Up}
@@ -15,7 +16,6 @@ use Rattle.rules.proofs.Holding.{held}
 use Rattle.plans.specs.words.Plan.{Layout}
 use Rattle.control.specs.words.Words.{node, reference-room, track-words}
 use Rattle.control.specs.words.Control.{label, state, at-end, Around, Holds}
-use Rattle.weighing.proofs.Told.{told}
 use Rattle.control.specs.words.Views.{arcs-of}
 use Rattle.leaves.specs.code.Leaves.{Done}
 use Rattle.step_laws.proofs.Writing.{Words, Added, Writes}
@@ -64,7 +64,7 @@ module _ (l : Layout) (p x : List ℕ) (count : ℕ) where
   pub record Matches (own : ℕ → ℕ) (u : Words) (y : Stepped) (d : Done) : Type 0 where
     pub writes : Writes l own u (words-of d) (added (y .outcome))
     pub fresh-is : d .taken .tally .fresh ≡ y .outcome .fresh
-    pub event-is : d .taken .event ≡ told (y .outcome .event)
+    pub event-is : d .taken .event ≡ (y .outcome .event)
     pub reference-is : d .taken .reference ≡ y .outcome .reference
     pub at-is : d .taken .at ≡ count - length (y .unused)
 

@@ -13,9 +13,9 @@ use Rattle.lines.specs.Line.{choose}
 use Rattle.frames.specs.TableFrame.{event-room}
 use Rattle.terms.specs.Term.{call, SKIP, STOP, Term, leaf-kind}
 use Rattle.places.specs.Place.{Place}
-use Rattle.rules.specs.Process.{τ, ✓, one, two, three, four, Address, Process, leaf, prefix, internal, split}
+use Rattle.rules.specs.declared.Event.the-variants.{Tau as τ, Tick as ✓, Tau, Tick, Visible}
+use Rattle.rules.specs.Process.{one, two, three, four, Address, Process, leaf, prefix, internal, split}
 use Rattle.rules.specs.Process.{sequence, Ω, ⊥′, below, right-side, rhs, cells}
-use Rattle.rules.specs.Process as Live
 use Rattle.rules.specs.Track.{pair, Outcome, labelled, prefixed}
 use Rattle.rules.specs.Step.{Stepped, stepped, step}
 use Rattle.rules.proofs.Marked.{one-same, past-drawn}
@@ -27,13 +27,12 @@ use Rattle.plans.specs.words.Plan as Plan
 use Rattle.control.specs.words.Words.{reference-room, node}
 use Rattle.control.specs.words.Control.{label, state, term, frame, resting, at-end, dead, Around, beyond}
 use Rattle.control.specs.words.Control.{Untouched, Rests, Holds}
-use Rattle.control.specs.declared.Event.{Event}
-use Rattle.control.specs.declared.Event.the-variants.{Tau, Tick, Visible}
+use Rattle.rules.specs.declared.Event.{Event}
 use Rattle.control.proofs.Framed.{around-lasting, untouched-told}
 use Rattle.control.proofs.Chains.{Awaiting, Tells, around-term, around-called}
 use Rattle.control.specs.words.Sums.{capped}
 use Rattle.looking.specs.code.Looking.{digit-at, taken}
-use Rattle.weighing.proofs.Told.{told, wrapped, wrapped-none, number, From, from-at, next-at}
+use Rattle.weighing.proofs.Told.{wrapped, wrapped-none, number, From, from-at, next-at}
 use Rattle.drawing.specs.code.Drawing.{one-node, one-arc, one-met, drawn, standing}
 use Rattle.drawing.specs.code.Drawing as Marks
 use Rattle.leaves.specs.code.Leaves.{Done, own-mark, event-mark, single, settled, by-event, after-settling}
@@ -102,7 +101,7 @@ module _ (l : Layout) (p x : List ℕ) (count n b : ℕ) (P : Process) (ks : Lis
       ∙ ready .sound .clean j 0 h (omega arith)
 
   -- one label and one arc, after which Q goes on
-  module _ (e : Live.Event) (Q : Process) (part : Fits u (labelled e Q v (at-words n u))) where
+  module _ (e : Event) (Q : Process) (part : Fits u (labelled e Q v (at-words n u))) where
     room : u .tally .fresh < reference-room
     unfolding labelled
     room = omega (arith, part .fresh-fits)
@@ -146,7 +145,7 @@ module _ (l : Layout) (p x : List ℕ) (count n b : ℕ) (P : Process) (ks : Lis
           → ((e ≡ ✓ → ⊥) → Holds l p x (after-one u n s t f) (u .tally .fresh) b Q ks)
           → (e ≡ ✓ → (Q ≡ Ω) × (state (after-one u n s t f) (u .tally .fresh) ≡ at-end))
           → Ends l p x count n b at-term at-frame ks P u (come-as (labelled e Q v (at-words n u)) a)
-          (single (told e) n s at-term t f at size (u .tally) (u .nodes) (u .track))
+          (single e n s at-term t f at size (u .tally) (u .nodes) (u .track))
       unfolding labelled single Leaves.on one-node one-arc drawn
       one-ends a at size at-is size-is goes-on over =
           let m = u .tally .fresh in
@@ -201,14 +200,14 @@ module _ (l : Layout) (p x : List ℕ) (count n b : ℕ) (P : Process) (ks : Lis
     abbrev by-one : Event → ℕ → ℕ → ℕ → Done
     by-one e s t f = single e n s at-term t f at size (u .tally) (u .nodes) (u .track)
 
-    one-fits : (e : Live.Event) (Q : Process) → Comes (labelled e Q v (at-words n u)) → (e ≡ ✓ → Q ≡ Ω)
+    one-fits : (e : Event) (Q : Process) → Comes (labelled e Q v (at-words n u)) → (e ≡ ✓ → Q ≡ Ω)
         → Fits u (labelled e Q v (at-words n u))
     unfolding labelled
     one-fits e Q come-to last =
         fits-part u (come-as (labelled e Q v (at-words n u)) a) y qs come-to (λ h. (last h, refl)) fits
 
     skip-goes : Comes (labelled ✓ Ω v (at-words n u)) → Goes-by (by-one Tick at-end 0 0)
-    unfolding labelled told cells
+    unfolding labelled cells
     skip-goes come-to =
         let part = one-fits ✓ Ω come-to (λ _. refl) in
         let there = standing-there (u .tally .fresh) at-end 0 0 (marked-first u n) (room ✓ Ω part)
@@ -220,7 +219,7 @@ module _ (l : Layout) (p x : List ℕ) (count n b : ℕ) (P : Process) (ks : Lis
     τ-goes : (Q : Process) (s t f : ℕ) → Comes (labelled τ Q v (at-words n u)) → cells Q ≡ 1
         → (Fits u (labelled τ Q v (at-words n u)) → Holds l p x (after-one u n s t f) (u .tally .fresh) b Q ks)
         → Goes-by (by-one Tau s t f)
-    unfolding labelled told
+    unfolding labelled
     τ-goes Q s t f come-to cell holds =
         ended-goes (labelled τ Q v (at-words n u)) (by-one Tau s t f) come-to (λ _. refl)
         (one-ends τ Q part s t f a at size at-is (rw cell size-is) (λ _. holds part) (λ h. absurd (never h)))
@@ -359,7 +358,7 @@ module _ (l : Layout) (p x : List ℕ) (count n b : ℕ) (P : Process) (ks : Lis
 
       prefix-goes : e < event-room
           → Goes-by (Leaves.prefix n at-term at-frame e at size (u .tally) (u .nodes) (u .track))
-      unfolding prefixed Leaves.prefix Leaves.on one-node one-arc one-met drawn told
+      unfolding prefixed Leaves.prefix Leaves.on one-node one-arc one-met drawn
       prefix-goes few =
           let next = capped-below (at-term + 1) (omega (arith, term-below)) in
           let is-next : capped (at-term + 1) ≡ suc at-term = omega (arith, next) in

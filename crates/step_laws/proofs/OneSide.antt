@@ -11,7 +11,9 @@ use native.Mathlib.Omega.{arith}
 use lib.ListN.{length}
 use Rattle.terms.specs.Term.{Term}
 use Rattle.places.specs.Place.{Place}
-use Rattle.rules.specs.Process.{Event, τ, ✓, visible, Address, Split, Process, cells}
+use Rattle.rules.specs.declared.Event.{Event}
+use Rattle.rules.specs.declared.Event.the-variants.{Tau as τ, Tick as ✓, Visible as visible}
+use Rattle.rules.specs.Process.{Address, Split, Process, cells}
 use Rattle.rules.specs.Track.{Entered, Outcome, first-eval, around}
 use Rattle.rules.specs.Step.{Stepped}
 use Rattle.rules.proofs.Marked.{one, one-same, past, past-most, past-drawn, marked}
@@ -22,7 +24,6 @@ use Rattle.control.specs.words.Control.{term, frame, split-kind, Splits}
 use Rattle.control.proofs.Framed.{Same, Lasts, Lasting, lasting-then, holds-framed}
 use Rattle.control.specs.words.Sums.{capped}
 use Rattle.weights.specs.code.Rules.{stays, shown}
-use Rattle.weighing.proofs.Told.{told}
 use Rattle.sides.specs.code.Sides.{put-side}
 use Rattle.sides.specs.code.Sides as Sides
 use Rattle.leaves.specs.code.Leaves.{Done, with-words, come, settled, by-event}
@@ -68,9 +69,9 @@ pub record Closes (l : Layout) (p x : List ℕ) (count n b : ℕ) (ks : List ℕ
   pub is : code ≡ settled p (done .taken) (term (u .nodes) n) (frame (u .nodes) n) b (done .nodes) (done .track)
 
 -- sequences let a step that does not end be
-pub settled-still : (p : List ℕ) (d : Done) (t f b : ℕ) (e : Event) → (e ≡ ✓ → ⊥) → d .taken .event ≡ told e
+pub settled-still : (p : List ℕ) (d : Done) (t f b : ℕ) (e : Event) → (e ≡ ✓ → ⊥) → d .taken .event ≡ e
     → d ≡ settled p (d .taken) t f b (d .nodes) (d .track)
-unfolding settled by-event told
+unfolding settled by-event
 settled-still p d t f b τ n e = rw e
 settled-still p d t f b ✓ n e = absurd (n refl)
 settled-still p d t f b (visible a) n e = rw e
@@ -271,7 +272,7 @@ module _ {l : Layout} {p x : List ℕ} {count : ℕ} {ts : List Term} {s : Side}
   module _ (size : ℕ) (is-size : size ≡ length ks + suc (cells P + cells Q)) (few : size ≤ 4096) where
     abbrev stayed-done : Event → Done
     stayed-done e = with-words
-        (come (told e) n (capped (size - node (5 + number s) (u .nodes) n + d .taken .size)) (d .taken .at)
+        (come e n (capped (size - node (5 + number s) (u .nodes) n + d .taken .size)) (d .taken .at)
         (d .taken .tally))
         (put-there .nodes) (d .track)
 
@@ -301,8 +302,8 @@ module _ {l : Layout} {p x : List ℕ} {count : ℕ} {ts : List Term} {s : Side}
           Ω-there = λ q. absurd (n✓ q);
         }
 
-    pub stays-closes : (e : Event) → stays (split-kind k) (told (r .event)) ≡ true
-        → shown (split-kind k) (told (r .event)) ≡ told e → (e ≡ ✓ → ⊥)
+    pub stays-closes : (e : Event) → stays (split-kind k) (r .event) ≡ true
+        → shown (split-kind k) (r .event) ≡ e → (e ≡ ✓ → ⊥)
         → Closes l p x count n b ks whole u (stayed e) (one-code size)
     unfolding Sides.one
     stays-closes e it-stays it-shows n✓ = record {

@@ -14,7 +14,8 @@ use borrow.Author.Tests.{eqb-true, eq-eqb, ne-eqb}
 use Rattle.lines.specs.Line.{choose}
 use Rattle.frames.specs.TableFrame.{term-room}
 use Rattle.places.specs.Place.{Place}
-use Rattle.rules.specs.Process.{τ, ✓, visible, Address, Process, Ω, cells}
+use Rattle.rules.specs.declared.Event.the-variants.{Tau as τ, Tick as ✓, Visible as visible}
+use Rattle.rules.specs.Process.{Address, Process, Ω, cells}
 use Rattle.rules.specs.Process as Live
 use Rattle.rules.specs.Track.{pair, Outcome, carried, started}
 use Rattle.rules.specs.Step.{Stepped, stepped, in-sequence, by-left}
@@ -25,7 +26,7 @@ use Rattle.control.specs.words.Control.{term, resting, innermost, behind, Aroun
 use Rattle.control.proofs.Framed.{untouched-told, follows-told, around-lasting}
 use Rattle.control.proofs.Chains.{Awaiting, Tells, wrapped-cells, wrapped-holds, around-started}
 use Rattle.control.proofs.Chains as Chains
-use Rattle.weighing.proofs.Told.{told, wrapped}
+use Rattle.weighing.proofs.Told.{wrapped}
 use Rattle.drawing.specs.code.Drawing.{one-node, one-arc, drawn, labelled}
 use Rattle.leaves.specs.code.Leaves.{Done, own-mark, ends, by-event, settled}
 use Rattle.leaves.specs.code.Leaves as Leaves
@@ -37,6 +38,7 @@ use Rattle.step_laws.proofs.Going.{words-of, added, Sound, Fits, Matche
 use Rattle.step_laws.proofs.Parts.{one-on, Clean, sound-clean, marked-drawn, clean-after, on-writes}
 use Rattle.step_laws.proofs.Parts.{untouched-below, untouched-around, rests-holds, single-cell}
 use Rattle.step_laws.proofs.Parts.{new-rests}
+use Rattle.rules.specs.declared.Event.{Event}
 
 -- the frame of a chain is drawn
 pub around-drawn : (p : List ℕ) (u : Words) → Clean u → (t f b : ℕ) (ks : List ℕ) → b < u .tally .fresh
@@ -67,7 +69,7 @@ right-as r q qs = carried (started r (q .right) (q .place)) (Chains.wrapped (q .
 abbrev pub come-as : Outcome → Address → Stepped
 come-as r a = record { outcome = r; unused = a }
 
-stays-inside : (v : Place) (Q : Process) (r : Outcome) (a : Address) (e : Live.Event) → (e ≡ ✓ → ⊥)
+stays-inside : (v : Place) (Q : Process) (r : Outcome) (a : Address) (e : Event) → (e ≡ ✓ → ⊥)
     → in-sequence e v Q r a ≡ stepped (carried r (Live.sequence v true (r .process) Q)) a
 unfolding in-sequence
 stays-inside v Q r a τ h = refl
@@ -100,11 +102,11 @@ tells-told l p x w w′ (k ∷ ks) (q ∷ qs) t =
     (follows-told l p x w w′ k (q .place) (q .right) (t .0), tells-told l p x w w′ ks qs (t .1))
 
 -- an event that ends, or one that does not
-pub data Ending (e : Live.Event) : Type 0 where
+pub data Ending (e : Event) : Type 0 where
   over : e ≡ ✓ → Ending e
   on : (e ≡ ✓ → ⊥) → Ending e
 
-pub ending : (e : Live.Event) → Ending e
+pub ending : (e : Event) → Ending e
 ending τ = on (λ h. let z : _≡_ {A = ℕ} 0 1 = cc in omega arith)
 ending ✓ = over refl
 ending (visible n) = on (λ h. let z : _≡_ {A = ℕ} 0 1 = cc in omega arith)
@@ -176,16 +178,16 @@ one-other j i h = simp (ne-eqb j i h)
 
 -- what the code makes of an event: of one that does not end nothing, and a ✓ starts the innermost right
 module _ (p : List ℕ) (d : Done) (t f b : ℕ) where
-  settled-on : (e : Live.Event) → (e ≡ ✓ → ⊥) → d .taken .event ≡ told e
+  settled-on : (e : Event) → (e ≡ ✓ → ⊥) → d .taken .event ≡ e
       → settled p (d .taken) t f b (d .nodes) (d .track) ≡ d
-  unfolding settled by-event told
+  unfolding settled by-event
   settled-on τ h e = rw e
   settled-on ✓ h e = absurd (h refl)
   settled-on (visible n) h e = rw e
 
-  settled-over : (e : Live.Event) → e ≡ ✓ → d .taken .event ≡ told e
+  settled-over : (e : Event) → e ≡ ✓ → d .taken .event ≡ e
       → settled p (d .taken) t f b (d .nodes) (d .track) ≡ ends p (d .taken) t f b (d .nodes) (d .track)
-  unfolding settled by-event told
+  unfolding settled by-event
   settled-over e h i = rw (i, h)
 
   ends-last : Around p (d .nodes) t f b [] → ends p (d .taken) t f b (d .nodes) (d .track) ≡ d
@@ -284,7 +286,7 @@ module _ (l : Layout) (p x : List ℕ) (count n b t f : ℕ) (P : Process) (u : 
 
     start-matches : Matches l p x count (λ j. held j n P) u (come-as (right-as (y .outcome) q qs) (y .unused))
         next
-    unfolding Leaves.started Leaves.on one-node one-arc drawn carried started told
+    unfolding Leaves.started Leaves.on one-node one-arc drawn carried started
     start-matches =
         let m = e .matches in
         let there = e .Ω-there h in

@@ -9,7 +9,9 @@ use native.Mathlib.Omega.{arith}
 use Rattle.lines.specs.Line.{choose}
 use Rattle.sets.specs.EventSet.{member}
 use Rattle.places.specs.Place.{Place}
-use Rattle.rules.specs.Process.{Event, τ, ✓, visible, Split, choice, together, Process, cells}
+use Rattle.rules.specs.declared.Event.{Event}
+use Rattle.rules.specs.declared.Event.the-variants.{Tau as τ, Tick as ✓, Visible as visible}
+use Rattle.rules.specs.Process.{Split, choice, together, Process, cells}
 use Rattle.rules.specs.Track.{Entered, around}
 use Rattle.rules.specs.Step.{Stepped, one-side, by-side}
 use Rattle.step_laws.proofs.Opening.{Side, split-by, split-by-cells}

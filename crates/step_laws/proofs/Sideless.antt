@@ -14,8 +14,8 @@ use Rattle.control.specs.words.Words.{node, put, reference-room}
 use Rattle.kinds.specs.Kind as Kind
 use Rattle.plans.specs.words.Plan.{kind, operand, second, around}
 use Rattle.control.specs.words.Control.{label, term, frame, first, second-side, resting, at-end, dead, beyond}
-use Rattle.control.specs.declared.Event.{Event}
-use Rattle.control.specs.declared.Event.the-variants.{Tau, Tick, Visible}
+use Rattle.rules.specs.declared.Event.{Event}
+use Rattle.rules.specs.declared.Event.the-variants.{Tau, Tick, Visible}
 use Rattle.control.proofs.NodeLaws.{Whole, put-whole, put-other}
 use Rattle.control.specs.words.Sums.{capped}
 use Rattle.looking.specs.code.Looking.{taken}

@@ -13,8 +13,9 @@ use Rattle.lines.specs.Line.{choose}
 use Rattle.sets.specs.EventSet.{member}
 use Rattle.terms.specs.Term.{Term}
 use Rattle.places.specs.Place.{Place}
-use Rattle.rules.specs.Process.{Event, τ, ✓, visible, Address, together, Process, leaf, prefix, internal}
-use Rattle.rules.specs.Process.{split, sequence, Ω, ⊥′}
+use Rattle.rules.specs.declared.Event.{Event}
+use Rattle.rules.specs.declared.Event.the-variants.{Tau as τ, Tick as ✓, Visible as visible}
+use Rattle.rules.specs.Process.{Address, together, Process, leaf, prefix, internal, split, sequence, Ω, ⊥′}
 use Rattle.rules.specs.Track.{Entered, first-eval, inside, beside, jointly, ended}
 use Rattle.rules.specs.Step.{Stepped, stepped, step, same, then, at-Ω}
 use Rattle.plans.specs.words.Plan.{Layout, second}

@@ -11,8 +11,9 @@ use Rattle.lines.specs.Line.{choose}
 use Rattle.sets.specs.EventSet.{member}
 use Rattle.terms.specs.Term.{Term}
 use Rattle.places.specs.Place.{Place}
-use Rattle.rules.specs.Process.{Event, τ, ✓, visible, one, two, three, four, Address, Split, choice, together}
-use Rattle.rules.specs.Process.{Process, split}
+use Rattle.rules.specs.declared.Event.{Event}
+use Rattle.rules.specs.declared.Event.the-variants.{Tau as τ, Tick as ✓, Visible as visible}
+use Rattle.rules.specs.Process.{one, two, three, four, Address, Split, choice, together, Process, split}
 use Rattle.rules.specs.Track.{Label, At, Entered, Outcome, first-eval, inside, beside, around, jointly}
 use Rattle.rules.specs.Track.{carried, started, ended}
 use Rattle.rules.specs.Step.{Stepped, stepped, one-side, by-side, same, both-sides, with-right, in-sequence}

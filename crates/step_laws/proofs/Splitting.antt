@@ -10,7 +10,8 @@ use native.Mathlib.Omega.{arith}
 use lib.ListN.{length}
 use Rattle.terms.specs.Term.{Term}
 use Rattle.places.specs.Place.{Place}
-use Rattle.rules.specs.Process.{✓, Address, Split, Process, Ω, cells}
+use Rattle.rules.specs.declared.Event.the-variants.{Tick as ✓}
+use Rattle.rules.specs.Process.{Address, Split, Process, Ω, cells}
 use Rattle.rules.specs.Track.{Entered, first-eval, around}
 use Rattle.rules.specs.Track as Track
 use Rattle.rules.specs.Step.{Stepped, step, by-side}

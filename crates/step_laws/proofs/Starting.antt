@@ -9,7 +9,8 @@ use native.Mathlib.Omega.{arith}
 use lib.ListN.{length, length-append}
 use Rattle.terms.specs.Term.{Term}
 use Rattle.places.specs.Place.{Place}
-use Rattle.rules.specs.Process.{Event, Address, Split, choice, together, Process, cells}
+use Rattle.rules.specs.declared.Event.{Event}
+use Rattle.rules.specs.Process.{Address, Split, choice, together, Process, cells}
 use Rattle.rules.specs.Track.{Entered, Outcome, first-eval, around}
 use Rattle.rules.specs.Track as Track
 use Rattle.rules.specs.Tracking.{Tracks}

@@ -10,7 +10,7 @@ use Rattle.kinds.specs.Kind as Kind
 use Rattle.plans.specs.words.Plan.{kind, second}
 use Rattle.control.specs.words.Words.{node, put}
 use Rattle.control.specs.words.Control.{state, term, frame, resting}
-use Rattle.control.specs.declared.Event.the-variants.{Tau}
+use Rattle.rules.specs.declared.Event.the-variants.{Tau}
 use Rattle.control.specs.words.Sums.{capped}
 use Rattle.looking.specs.code.Looking.{digit-at, is-split, taken, inside}
 use Rattle.leaves.specs.code.Leaves.{Done, with-words, come, leaf, end}

@@ -1,11 +1,12 @@
 // The step of an address taken: from the outside inward, by the digits that name it. Only a step that was weighed, and fits,
 // is taken. It relies on the steps of leaves and on the sides of a choice or parallel.
-use control::Event;
 use control::FRAME;
+use control::Nodes;
 use control::SIDES;
 use control::SIZES;
 use control::STATE;
 use control::TERM;
+use control::Track;
 use control::UNTOUCHED;
 use control::put;
 use control::sum;
@@ -19,8 +20,12 @@ use looking::digit_at;
 use looking::inside_of;
 use looking::is_split;
 use looking::taken;
+use plans::Plan;
+use plans::SEQUENCE_WORD;
 use plans::kind_of;
 use plans::second_of;
+use rules::Event;
+use scripts::Digits;
 use sides::close_both;
 use sides::close_one;
 use sides::enter;
@@ -28,8 +33,6 @@ use sides::enter_side;
 use sides::put_side;
 ghost use mathlib.Core.Path.{_≡_};
 ghost use Rattle.stepping.specs.code.Take as spec;
-
-const SEQUENCE: usize = 5;
 
 // Takes the step of what stands at reference n, inside sequences up to frame `bound`, by the digits from `at` on.
 pub fn take(
@@ -40,10 +43,10 @@ pub fn take(
     left: usize,
     count: usize,
     tally: Tally,
-    digits: &[u8; 1024],
-    plan: &[u16; 4096],
-    nodes: &mut [u16; 65544],
-    track: &mut [u16; 28672],
+    digits: &Digits,
+    plan: &Plan,
+    nodes: &mut Nodes,
+    track: &mut Track,
 ) -> Taken
     ensures { λ r. ⌜ r ≡ spec.take (now (plan .entry)) count (now (digits .entry)) left n bound at size tally
         (now (nodes .entry)) (now (track .entry)) .taken ⌝ }
@@ -60,7 +63,7 @@ pub fn take(
     let kind = kind_of(t, plan);
     let digit = digit_at(at, count, digits);
     if word(n, STATE, nodes) == UNTOUCHED {
-        if kind == SEQUENCE {
+        if kind == SEQUENCE_WORD {
             put(n, TERM, sum(t, 1), nodes);
             let larger = sum(size, 1);
             return take(

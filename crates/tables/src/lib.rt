@@ -1,12 +1,22 @@
 // Tables of terms: a table's text is judged, and a good one becomes columns: for each term its kind, its
 // payload, the definition that it stands in and the term behind it, and for each definition its root. It
 // relies on the line finder for where a line ends and what its bytes are.
-use filling::behind;
+use columns::After;
+use columns::Kinds;
+use columns::Owners;
+use columns::Payloads;
+use columns::Roots;
+use filling::LEVEL_ROOM;
 use filling::take;
 use filling::walk;
+use frames::DEFINITION_ROOM;
 use frames::Seen;
+use frames::TERM_ROOM;
 use frames::closes;
 use lines::Line;
+use lines::NO_LINE;
+use lines::TEXT_OVER_ROOM;
+use lines::WRONG_FRAME;
 use lines::next_line;
 use refusals::Opened;
 use refusals::Said;
@@ -24,7 +34,8 @@ ghost use Rattle.tables.specs.words.Columns as columns;
 ghost use Rattle.tables.specs.words.Columns.{answer, left};
 ghost use Rattle.tables.specs.words.Filled.{begins, Filled};
 
-const TEXT_ROOM: usize = 32768;
+// The room of a table's text.
+pub const TABLE_TEXT_ROOM: usize = 32768;
 
 // How much a table holds.
 pub struct Counts {
@@ -44,11 +55,11 @@ pub enum Checked {
 // each definition's first term; zeros stand behind. A refusal leaves every column as it was.
 pub fn check(
     text: &[u8],
-    kinds: &mut [u8; 1024],
-    payloads: &mut [u64; 1024],
-    owners: &mut [u8; 1024],
-    after: &mut [u16; 1024],
-    roots: &mut [u16; 64],
+    kinds: &mut Kinds,
+    payloads: &mut Payloads,
+    owners: &mut Owners,
+    after: &mut After,
+    roots: &mut Roots,
 ) -> Checked
     ensures { λ r. ⌜ r ≡ answer (judged (now (text .entry))) ⌝ }
     ensures { λ _. ⌜ now (kinds .exit)
@@ -62,8 +73,11 @@ pub fn check(
     ensures { λ _. ⌜ now (roots .exit)
         ≡ left columns.roots (judged (now (text .entry))) (now (roots .entry)) ⌝ }
 {
-    if TEXT_ROOM < text.len() {
-        return Checked::Refused { number: 6, line: 0 };
+    if TABLE_TEXT_ROOM < text.len() {
+        return Checked::Refused {
+            number: TEXT_OVER_ROOM,
+            line: 0,
+        };
     }
     let first = first_line(text);
     let Opened::Table {
@@ -77,10 +91,10 @@ pub fn check(
             line: 1,
         };
     };
-    let mut own_kinds = [0u8; 1024];
-    let mut own_payloads = [0u64; 1024];
-    let mut own_owners = [0u8; 1024];
-    let mut own_roots = [0u16; 64];
+    let mut own_kinds = [0u8; TERM_ROOM];
+    let mut own_payloads = [0u64; TERM_ROOM];
+    let mut own_owners = [0u8; TERM_ROOM];
+    let mut own_roots = [0u16; DEFINITION_ROOM];
     let checked = body(
         text,
         next,
@@ -94,7 +108,7 @@ pub fn check(
     let Checked::Accepted(counts) = checked else {
         return checked;
     };
-    let mut own_after = [0u16; 1024];
+    let mut own_after = [0u16; TERM_ROOM];
     walk(&own_kinds, counts.terms, &mut own_after);
     *kinds = own_kinds;
     *payloads = own_payloads;
@@ -110,10 +124,10 @@ fn body(
     from: usize,
     definitions: usize,
     events: usize,
-    kinds: &mut [u8; 1024],
-    payloads: &mut [u64; 1024],
-    owners: &mut [u8; 1024],
-    roots: &mut [u16; 64],
+    kinds: &mut Kinds,
+    payloads: &mut Payloads,
+    owners: &mut Owners,
+    roots: &mut Roots,
 ) -> Checked
     requires { ⌜ definitions ≤ 64 ⌝ }
     ensures { λ r. ⌜ r
@@ -123,7 +137,7 @@ fn body(
         → Filled s (now (kinds .exit)) (now (payloads .exit)) (now (owners .exit)) (now (roots .exit))
         (now (kinds .entry)) (now (payloads .entry)) (now (owners .entry)) (now (roots .entry))) ⌝ }
 {
-    let mut waiting = [0u8; 65];
+    let mut waiting = [0u8; LEVEL_ROOM];
     let mut s = Seen {
         definitions,
         events,
@@ -163,7 +177,13 @@ fn closed(text: &[u8], at: usize, s: Seen, line: usize) -> Checked
             events: s.events,
             terms: s.terms,
         }),
-        Line::NoLine => Checked::Refused { number: 1, line },
-        Line::Found { end: _, next: _ } => Checked::Refused { number: 2, line },
+        Line::NoLine => Checked::Refused {
+            number: NO_LINE,
+            line,
+        },
+        Line::Found { end: _, next: _ } => Checked::Refused {
+            number: WRONG_FRAME,
+            line,
+        },
     }
 }

@@ -1,3 +1,2 @@
 -- Definitions of telling.
 pub mod ListingFrame
-pub mod code

@@ -2,8 +2,10 @@
 use Prim.Native.Nat.{ℕ}
 use mathlib.Core.List.{List, [], _∷_}
 use Rattle.lines.specs.Line.{text, two}
-use Rattle.rules.specs.Process.{Event, τ, ✓, visible}
-use Rattle.rules.specs.Offers.{Status, live, ended, stuck}
+use Rattle.rules.specs.declared.Event.{Event}
+use Rattle.rules.specs.declared.Event.the-variants.{Tau as τ, Tick as ✓, Visible as visible}
+use Rattle.rules.specs.declared.Status.{Status}
+use Rattle.rules.specs.declared.Status.the-variants.{Live as live, Ended as ended, Stuck as stuck}
 
 -- 40 00 (τ), 40 01 (✓) or 40 02 ee (event ee): an accepted step
 unfoldable pub step-frame : Event → List ℕ

@@ -1,8 +1,8 @@
 // Lines of the listing: each function puts its line from a cursor on, and tells where it ends. Past the end of the slice
 // nothing is put.
-use control::Event;
 use links::at_most;
-use offers::Status;
+use rules::Event;
+use rules::Status;
 use spelling::put_byte;
 use spelling::put_end;
 use spelling::put_number;
@@ -11,22 +11,21 @@ ghost use Prim.Native.Nat.{_≤_};
 ghost use lib.ListN.{length, take};
 ghost use Rattle.lines.specs.Line.{text};
 ghost use Rattle.spelling.specs.Puts.{Puts};
-ghost use Rattle.telling.specs.ListingFrame.{alone};
-ghost use Rattle.telling.specs.code.Shown.{shown-step, shown-status};
+ghost use Rattle.telling.specs.ListingFrame.{step-frame, status-frame, alone};
 
 // First bytes of frames.
-const STEP: u8 = 64;
+const SHOWN_FRAME: u8 = 0x40;
 
-const STATUS: u8 = 65;
+const STATUS_FRAME: u8 = 0x41;
 
-const REFUSAL: u8 = 78;
+const REFUSAL_FRAME: u8 = 0x4e;
 
 // `40 00` τ, `40 01` ✓, `40 02 ee` event ee.
 pub fn put_event(event: Event, at: usize, out: &mut [u8]) -> usize
     requires { ⌜ at ≤ 2000000 ⌝ }
-    ensures { λ r. ⌜ Puts at (text (shown-step event ∷ [])) (now (out .entry)) (now (out .exit)) r ⌝ }
+    ensures { λ r. ⌜ Puts at (text (step-frame event ∷ [])) (now (out .entry)) (now (out .exit)) r ⌝ }
 {
-    let a = put_byte(at, STEP, out);
+    let a = put_byte(at, SHOWN_FRAME, out);
     match event {
         Event::Tau => put_last(0, a, out),
         Event::Tick => put_last(1, a, out),
@@ -40,9 +39,9 @@ pub fn put_event(event: Event, at: usize, out: &mut [u8]) -> usize
 // `41 ss`: 00 live, 01 ended, 02 stuck.
 pub fn put_status(status: Status, at: usize, out: &mut [u8]) -> usize
     requires { ⌜ at ≤ 2000000 ⌝ }
-    ensures { λ r. ⌜ Puts at (text (shown-status status ∷ [])) (now (out .entry)) (now (out .exit)) r ⌝ }
+    ensures { λ r. ⌜ Puts at (text (status-frame status ∷ [])) (now (out .entry)) (now (out .exit)) r ⌝ }
 {
-    let a = put_byte(at, STATUS, out);
+    let a = put_byte(at, STATUS_FRAME, out);
     match status {
         Status::Live => put_last(0, a, out),
         Status::Ended => put_last(1, a, out),
@@ -55,7 +54,7 @@ pub fn put_refusal(number: u8, line: usize, at: usize, out: &mut [u8]) -> usize
     requires { ⌜ at ≤ 2000000 ⌝ }
     ensures { λ r. ⌜ Puts at (alone number line) (now (out .entry)) (now (out .exit)) r ⌝ }
 {
-    let a = put_byte(at, REFUSAL, out);
+    let a = put_byte(at, REFUSAL_FRAME, out);
     let b = put_byte(a, number, out);
     let c = put_number(b, line, out);
     put_end(c, out)

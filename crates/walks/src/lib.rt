@@ -1,6 +1,10 @@
 // The numbering walk over a graph in columns: depth first from reference 0, a node numbered when first met, of two arcs the
 // first side's first. It relies on the linked sides.
 use columns::wide;
+use control::REFERENCES;
+use links::Column;
+use links::SIDE_WORDS;
+use links::SideWords;
 use links::reference_word;
 use links::side_word;
 ghost use mathlib.Core.Path.{_≡_};
@@ -11,16 +15,14 @@ ghost use Rattle.columns.specs.words.Columns.{look};
 ghost use Rattle.links.specs.code.Linked.{target};
 ghost use Rattle.walks.specs.code.Walked as of;
 
-const REFERENCES: usize = 8193;
-
 // Numbers the marked references that the sides lead to from reference 0 on: `numbers` gets one more than the number of each,
 // `labels` the marks by number. `pending` is scratch, and all 0 afterwards.
 pub fn walk(
-    marks: &[u16; 8193],
-    sides: &[u16; 16388],
-    numbers: &mut [u16; 8193],
-    labels: &mut [u16; 8193],
-    pending: &mut [u16; 16388],
+    marks: &Column,
+    sides: &SideWords,
+    numbers: &mut Column,
+    labels: &mut Column,
+    pending: &mut SideWords,
 ) -> usize
     ensures { λ r. ⌜ r ≡ length (of.walked (now (marks .entry)) (now (sides .entry))) ⌝ }
     ensures { λ _. ⌜ now (numbers .exit) ≡ of.numbers (of.walked (now (marks .entry)) (now (sides .entry))) ⌝ }
@@ -28,9 +30,9 @@ pub fn walk(
         ≡ of.laid (of.marks-by (now (marks .entry)) (of.walked (now (marks .entry)) (now (sides .entry)))) ⌝ }
     ensures { λ _. ⌜ now (pending .exit) ≡ replicate 16388 0 ⌝ }
 {
-    *numbers = [0u16; 8193];
-    *labels = [0u16; 8193];
-    *pending = [0u16; 16388];
+    *numbers = [0u16; REFERENCES];
+    *labels = [0u16; REFERENCES];
+    *pending = [0u16; SIDE_WORDS];
     let mut top = pending_first(marks);
     let mut count: usize = 0;
     'walk: loop {
@@ -48,12 +50,12 @@ pub fn walk(
         top = push(node, 2, top, sides, pending);
         top = push(node, 1, top, sides, pending);
     }
-    *pending = [0u16; 16388];
+    *pending = [0u16; SIDE_WORDS];
     count
 }
 
 // How many nodes are pending at first: reference 0, where it has a mark.
-fn pending_first(marks: &[u16; 8193]) -> usize
+fn pending_first(marks: &Column) -> usize
     ensures { λ r. ⌜ r ≡ length (of.first (now (marks .entry))) ⌝ }
 {
     if reference_word(0, marks) == 0 { 0 } else { 1 }
@@ -63,9 +65,9 @@ fn pending_first(marks: &[u16; 8193]) -> usize
 fn give_number(
     node: usize,
     count: usize,
-    marks: &[u16; 8193],
-    numbers: &mut [u16; 8193],
-    labels: &mut [u16; 8193],
+    marks: &Column,
+    numbers: &mut Column,
+    labels: &mut Column,
 ) -> usize
     requires { ⌜ (node < 8193) × (count < 8193) ⌝ }
     ensures { λ r. ⌜ r ≡ count + 1 ⌝ }
@@ -78,13 +80,7 @@ fn give_number(
 }
 
 // Puts where a side of a node leads on top of what is pending; how many are pending then.
-fn push(
-    node: usize,
-    side: usize,
-    top: usize,
-    sides: &[u16; 16388],
-    pending: &mut [u16; 16388],
-) -> usize
+fn push(node: usize, side: usize, top: usize, sides: &SideWords, pending: &mut SideWords) -> usize
     requires { ⌜ (node < 8193) × (side ≤ 2) × (top < 16388) ⌝ }
     ensures { λ r. ⌜ r ≡ top + length (target (look 16388 (now (sides .entry)) (2 * node + side))) ⌝ }
     ensures { λ _. ⌜ now (pending .exit)

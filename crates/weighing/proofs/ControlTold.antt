@@ -33,7 +33,7 @@ use Rattle.weighing.specs.code.Ending.{weigh-end}
 use Rattle.weighing.specs.code.Weigh.{by-digit, at-reference}
 use Rattle.weights.specs.declared.Weighed.the-variants.{Nothing}
 use Rattle.control.proofs.Capped.{capped-small}
-use Rattle.weighing.proofs.Told.{told, number, From, weight, weight-of, wrapped, Single, some-behind}
+use Rattle.weighing.proofs.Told.{number, From, weight, weight-of, wrapped, Single, some-behind}
 use Rattle.weighing.proofs.Told.{weight-none, weight-settled, digit-none, next-at, from-at, from-left}
 use Rattle.control.proofs.Chains.{Awaiting as Behind, Tells as Behinds}
 use Rattle.weighing.proofs.SideTold.{in-front, entered-before, by-first, by-second, by-both}
@@ -106,7 +106,7 @@ is-bare : List ℕ → Bool
 is-bare [] = true
 is-bare (k ∷ ks) = false
 
--- a reference that is told of is not 0
+-- a reference that is of is not 0
 nonzero : (n b : ℕ) → b < n → eqb n 0 ≡ false
 nonzero n b h = ne-eqb n 0 (λ e. omega arith)
 
@@ -189,7 +189,7 @@ module _ (ts : List Term) (l : Layout) (p x : List ℕ) (count : ℕ) (ds : List
       → at-reference p x count ds w g arcs left n t b at (cells P)
       ≡ weight-of count (in-front (first-eval own other v s) (step ts P (inside (first-eval own other v s) s) a))
 
-  -- a side that is told of at a reference, 0 where it has not stepped: whether it has ended, and its weight
+  -- a side that is of at a reference, 0 where it has not stepped: whether it has ended, and its weight
   record Side (own : Option ℕ) (P : Process) (left r t b : ℕ) : Type 0 where
     ended-there : eqb (state w r) at-end ≡ at-Ω P
     named : at-Ω P ≡ true → (own ≡ some r) × (r < f)
@@ -270,7 +270,7 @@ module _ (ts : List Term) (l : Layout) (p x : List ℕ) (count : ℕ) (ds : List
         → size ≡ length qs + 3 → size ≤ 2048
         → Rules.ended at size (Looking.parents g i j 0 arcs) (some-behind qs)
         ≡ weight-of count (wrapped qs (stepped (ended (some i) (some j) s) a))
-    unfolding Rules.ended ended weight resized told cells
+    unfolding Rules.ended ended weight resized cells
     both-ended i j qs at size a s hi hj since from next u e few =
         let less : size - 2 ≡ length qs + 1 = omega arith in
         sym (weight-settled count qs (ended (some i) (some j) s) a (λ h. refl) u (omega arith)

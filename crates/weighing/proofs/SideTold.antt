@@ -16,15 +16,15 @@ use Rattle.sets.specs.EventSet.{member}
 use Rattle.kinds.specs.Kind as Kind
 use Rattle.places.specs.Place.{Place}
 use Rattle.terms.specs.Term.{Term}
-use Rattle.rules.specs.Process.{Event, τ, ✓, visible, one, two, three, Address, Split, choice, together}
-use Rattle.rules.specs.Process.{Process, split, cells}
+use Rattle.rules.specs.declared.Event.{Event}
+use Rattle.rules.specs.declared.Event.the-variants.{Tau as τ, Tick as ✓, Visible as visible, Tau, Tick}
+use Rattle.rules.specs.declared.Event.the-variants.{Visible}
+use Rattle.rules.specs.Process.{one, two, three, Address, Split, choice, together, Process, split, cells}
 use Rattle.rules.specs.Track.{At, Outcome, Entered, first-eval, inside, around, right-eval, right-inside}
 use Rattle.rules.specs.Track.{each-with, meet, jointly}
 use Rattle.rules.specs.Step.{Stepped, stepped, one-side, by-side, same, both-sides, with-right, then, step}
 use Rattle.plans.specs.words.Plan.{kind}
 use Rattle.control.specs.words.Control.{split-kind, split-set}
-use Rattle.control.specs.declared.Event as control
-use Rattle.control.specs.declared.Event.the-variants.{Tau, Tick, Visible}
 use Rattle.control.specs.words.Sums.{capped}
 use Rattle.looking.specs.code.Looking.{is-side, set-of}
 use Rattle.weights.specs.code.Rules as Rules
@@ -33,7 +33,7 @@ use Rattle.weighing.specs.code.Weigh.{by-digit}
 use Rattle.weights.specs.declared.Weighed.{Weighed}
 use Rattle.weights.specs.declared.Weighed.the-variants.{Derived, Nothing}
 use Rattle.control.proofs.Capped.{capped-sum, capped-left, capped-right, capped-product}
-use Rattle.weighing.proofs.Told.{told, weight, weight-of, wrapped, Single, some-behind, weight-none}
+use Rattle.weighing.proofs.Told.{weight, weight-of, wrapped, Single, some-behind, weight-none}
 use Rattle.weighing.proofs.Told.{τ-goes-on, visible-goes-on, weight-on, weight-settled, ends-single}
 use Rattle.control.proofs.Chains.{Awaiting as Behind}
 
@@ -102,7 +102,7 @@ module _ (count : ℕ) where
         (a : Address) where
       -- the split stays, or is dropped
       stays-told : (v : Event) → (v ≡ ✓ → ⊥)
-          → Derived (resized (told v) (capped (size - own + capped (cells (r .process))))
+          → Derived (resized v (capped (size - own + capped (cells (r .process))))
           (weight count (around i r v (r .process) (r .reference)) a))
           ≡ weight-of count (wrapped qs (stepped (around i r v (put (some (r .reference)) (r .process)) m) a))
       unfolding around resized weight
@@ -113,7 +113,7 @@ module _ (count : ℕ) where
           ∙ rw (room (r .reference) (r .process), capped-right (size - own) n, e))
 
       drops-told : (v : Event) → (v ≡ ✓ → cells (r .process) ≡ 1)
-          → settled (Derived (resized (told v) (capped (size - own - other - 1 + capped (cells (r .process))))
+          → settled (Derived (resized v (capped (size - own - other - 1 + capped (cells (r .process))))
           (weight count (around i r v (r .process) (r .reference)) a))) (some-behind qs)
           ≡ weight-of count (wrapped qs (stepped (around i r v (r .process) (r .reference)) a))
       unfolding around
@@ -128,7 +128,7 @@ module _ (count : ℕ) where
           (Derived (weight count (around i r v (r .process) (r .reference)) a)) size own other (some-behind qs)
           ≡ weight-of count (wrapped qs (one-side k v i put m r a))
       unfolding
-          Rules.one one-side split-kind split-set Rules.barred Rules.stays Rules.shown told weight around resized
+          Rules.one one-side split-kind split-set Rules.barred Rules.stays Rules.shown weight around resized
       side-told choice τ c = stays-told τ τ-goes-on
       side-told choice ✓ c = drops-told ✓ c
       side-told choice (visible e) c = drops-told (visible e) c
@@ -162,7 +162,7 @@ module _ (count : ℕ) where
       joint-told : (y : Stepped) (e f : ℕ) → eqb e f && member e x ≡ true
           → Rules.both Kind.parallel x (Left (visible e)) (Right y (visible f)) size own other
           ≡ weight-of count (wrapped qs (both-sides x v n₁ n₂ s l y (some e)))
-      unfolding Rules.both Rules.agree both-sides weight resized jointly around told cells
+      unfolding Rules.both Rules.agree both-sides weight resized jointly around cells
       joint-told y e f agreed =
           let i = first-eval n₁ n₂ v s in
           let j = right-eval n₁ n₂ v s l in
@@ -195,14 +195,14 @@ module _ (count : ℕ) where
       agreed-told : (y : Stepped) (e f : ℕ) (b : Bool) → eqb e f && member e x ≡ b
           → Rules.both Kind.parallel x (Left (visible e)) (Right y (visible f)) size own other
           ≡ weight-of count (wrapped qs (both-sides x v n₁ n₂ s l y (choose b (some e) none)))
-      unfolding Rules.both Rules.agree both-sides weight around told
+      unfolding Rules.both Rules.agree both-sides weight around
       agreed-told y e f true agreed = joint-told y e f agreed
       agreed-told y e f false agreed = rw agreed (weight-none count qs)
 
       events-told : (y : Stepped) (e f : Event)
           → Rules.both Kind.parallel x (Left e) (Right y f) size own other
           ≡ weight-of count (wrapped qs (both-sides x v n₁ n₂ s l y (same x e f)))
-      unfolding Rules.both Rules.agree same weight around told both-sides
+      unfolding Rules.both Rules.agree same weight around both-sides
       events-told y τ f = weight-none count qs
       events-told y ✓ f = weight-none count qs
       events-told y (visible e) τ = weight-none count qs
@@ -225,7 +225,7 @@ choice-alone x size own other Nothing r = refl
 choice-alone x size own other (Derived l) Nothing = refl
 choice-alone x size own other (Derived l) (Derived r) = rw (disagree (l .event) (r .event))
   where
-    disagree : (e f : control.Event) → Rules.agree Kind.external x e f ≡ false
+    disagree : (e f : Event) → Rules.agree Kind.external x e f ≡ false
     disagree Tau f = refl
     disagree Tick f = refl
     disagree (Visible a) Tau = refl

@@ -15,13 +15,14 @@ use Rattle.frames.specs.TableFrame.{term-room, path-room}
 use Rattle.places.specs.Place.{Place}
 use Rattle.terms.specs.Term.{Leaf, call, SKIP, STOP, internal, external, sequence, parallel, Term, leaf}
 use Rattle.terms.specs.Term.{prefix, binary, leaf-kind, operator-kind, operator-payload, Shallow}
-use Rattle.rules.specs.Process.{Event, τ, ✓, visible, one, two, three, four, Address, Split, choice, together}
-use Rattle.rules.specs.Process.{Process, split, cells, below, joined, untouched, right-side, rhs, Ω, ⊥′}
+use Rattle.rules.specs.declared.Event.{Event}
+use Rattle.rules.specs.declared.Event.the-variants.{Tau as τ, Tick as ✓, Visible as visible}
+use Rattle.rules.specs.Process.{one, two, three, four, Address, Split, choice, together, Process, split}
+use Rattle.rules.specs.Process.{cells, below, joined, untouched, right-side, rhs, Ω, ⊥′}
 use Rattle.rules.specs.Track.{At, Outcome, labelled, prefixed, first-eval, inside, beside}
 use Rattle.rules.specs.Step.{stepped, at-Ω, step}
 use Rattle.plans.specs.words.Plan.{Layout, word, kind, second, around, first-around, second-around, Planned}
 use Rattle.control.specs.words.Control.{split-kind, split-set}
-use Rattle.control.specs.declared.Event as control
 use Rattle.control.specs.words.Sums.{capped}
 use Rattle.weights.specs.code.Rules as Rules
 use Rattle.weights.specs.code.Rules.{settled, resized, entering, by-leaf}
@@ -29,7 +30,7 @@ use Rattle.looking.specs.code.Looking.{digit-at, is-split, is-side, taken, is-w
 use Rattle.weighing.specs.code.Weigh.{by-digit, of-term}
 use Rattle.weights.specs.declared.Weighed.the-variants.{Nothing}
 use Rattle.control.proofs.Capped.{capped-small}
-use Rattle.weighing.proofs.Told.{told, number, From, weight, weight-of, wrapped, Single, some-behind}
+use Rattle.weighing.proofs.Told.{number, From, weight, weight-of, wrapped, Single, some-behind}
 use Rattle.weighing.proofs.Told.{weight-none, τ-goes-on, visible-goes-on, weight-inside, weight-on}
 use Rattle.weighing.proofs.Told.{weight-settled, digit-none, next-at, from-at, from-left}
 use Rattle.control.proofs.Chains.{Awaiting as Behind}
@@ -138,7 +139,7 @@ within-some false i = rw (ne-eqb (suc i) 0 (λ h. omega arith))
 -- a step that labels and draws, with the sequences around it
 module _ (ds : List ℕ) (count at size : ℕ) (qs : List Behind) (a : Address) (f : From ds count at a)
     (fits : size ≡ suc (length qs)) (few : size ≤ 65535) where
-  step-weight : (e : control.Event) (r : Outcome) (n m : ℕ) → cells (r .process) ≡ 1 → length (r .labels) ≡ n
+  step-weight : (e : Event) (r : Outcome) (n m : ℕ) → cells (r .process) ≡ 1 → length (r .labels) ≡ n
       → length (r .arcs) ≡ n → length (r .meetings) ≡ 0 → length (r .met) ≡ m → n ≤ 65535 → m ≤ 65535
       → weight-inside count qs e r a ≡ Rules.step e at size n m
   unfolding Rules.step weight resized
@@ -159,14 +160,14 @@ module _ (ds : List ℕ) (count at size : ℕ) (qs : List Behind) (a : Address) 
       )
 
   leaf-weight : (v : Event) (P : Process) (w : Place) (s : At) → cells P ≡ 1
-      → weight-inside count qs (told v) (labelled v P w s) a ≡ Rules.step (told v) at size 1 0
+      → weight-inside count qs v (labelled v P w s) a ≡ Rules.step v at size 1 0
   unfolding labelled
   leaf-weight v P w s c =
-      step-weight (told v) (labelled v P w s) 1 0 c refl refl refl refl (omega arith) (omega arith)
+      step-weight v (labelled v P w s) 1 0 c refl refl refl refl (omega arith) (omega arith)
 
   -- one that ends starts the innermost right
   leaf-settled : Single qs → (v : Event) (P : Process) (w : Place) (s : At) → cells P ≡ 1
-      → settled (Rules.step (told v) at size 1 0) (some-behind qs)
+      → settled (Rules.step v at size 1 0) (some-behind qs)
       ≡ weight-of count (wrapped qs (stepped (labelled v P w s) a))
   unfolding labelled
   leaf-settled u v P w s c =
@@ -174,16 +175,16 @@ module _ (ds : List ℕ) (count at size : ℕ) (qs : List Behind) (a : Address) 
       ∙ sym (weight-settled count qs (labelled v P w s) a (λ h. c) u (omega arith))
 
   leaf-on : (P : Process) (w : Place) (s : At) → cells P ≡ 1
-      → Rules.step (told τ) at size 1 0 ≡ weight-of count (wrapped qs (stepped (labelled τ P w s) a))
+      → Rules.step τ at size 1 0 ≡ weight-of count (wrapped qs (stepped (labelled τ P w s) a))
   unfolding labelled
   leaf-on P w s c = sym (weight-on count qs (labelled τ P w s) a τ-goes-on ∙ leaf-weight τ P w s c)
 
   prefix-on : (k : ℕ) (P : Process) (w : Place) (s : At) → cells P ≡ 1
-      → Rules.step (told (visible k)) at size 2 1 ≡ weight-of count (wrapped qs (stepped (prefixed k P w s) a))
+      → Rules.step (visible k) at size 2 1 ≡ weight-of count (wrapped qs (stepped (prefixed k P w s) a))
   unfolding prefixed
   prefix-on k P w s c =
       sym (weight-on count qs (prefixed k P w s) a (visible-goes-on k)
-      ∙ step-weight (told (visible k)) (prefixed k P w s) 2 1 c refl refl refl refl (omega arith) (omega arith))
+      ∙ step-weight (visible k) (prefixed k P w s) 2 1 c refl refl refl refl (omega arith) (omega arith))
 
 module _ (ts : List Term) (l : Layout) (p x : List ℕ) (count : ℕ) (ds : List ℕ) where
   -- a term's weight is that of its step
@@ -199,7 +200,7 @@ module _ (ts : List Term) (l : Layout) (p x : List ℕ) (count : ℕ) (ds : List
   nothing-left t i o nested at size qs a s pl f lv = absurd (omega (arith, levels-some t))
 
   leaf-told : (f : Leaf) (left : ℕ) → Tells (leaf f) (suc left)
-  unfolding of-term leaf-kind is-split by-leaf untouched step told cells
+  unfolding of-term leaf-kind is-split by-leaf untouched step cells
   leaf-told (call n) left i o nested at size qs a s pl f lv u w e few =
       rw (pl .0)
       (leaf-on ds count at size qs a f e (omega arith) (rhs ts n) (l .place i) s (right-cells n (getElem? ts n)))
@@ -209,7 +210,7 @@ module _ (ts : List Term) (l : Layout) (p x : List ℕ) (count : ℕ) (ds : List
       rw (pl .0) (leaf-on ds count at size qs a f e (omega arith) ⊥′ (l .place i) s refl)
 
   prefix-told : (k : ℕ) (t : Term) (left : ℕ) → Tells (prefix k t) (suc left)
-  unfolding of-term is-split by-leaf untouched step told
+  unfolding of-term is-split by-leaf untouched step
   prefix-told k t left i o nested at size qs a s pl f lv u w e few =
       let small : k < 64 = pl .3 in
       let kept : k % 256 ≡ k = omega arith in
@@ -219,7 +220,7 @@ module _ (ts : List Term) (l : Layout) (p x : List ℕ) (count : ℕ) (ds : List
 
   -- an internal choice goes to the side that a digit names
   internal-told : (t v : Term) (left : ℕ) → Tells (binary internal t v) (suc left)
-  unfolding of-term operator-kind is-split by-leaf untouched joined step told number
+  unfolding of-term operator-kind is-split by-leaf untouched joined step number
   internal-told t v left i o nested at size qs [] s pl f lv u w e few =
       rw (pl .0, digit-none ds count at f) (weight-none count qs)
   internal-told t v left i o nested at size qs (one ∷ a) s pl f lv u w e few =

@@ -15,16 +15,14 @@ use borrow.Author.Tests.{ltb-true, le-ltb}
 use Rattle.lines.specs.Line.{choose}
 use Rattle.places.specs.Place.{Place}
 use Rattle.terms.specs.Term.{Term}
-use Rattle.rules.specs.Process.{τ, ✓, visible, Digit, one, two, three, four, Address, Process, sequence}
-use Rattle.rules.specs.Process.{cells}
-use Rattle.rules.specs.Process as Live
+use Rattle.rules.specs.declared.Event.the-variants.{Tau as τ, Tick as ✓, Visible as visible, Tick}
+use Rattle.rules.specs.Process.{Digit, one, two, three, four, Address, Process, sequence, cells}
 use Rattle.rules.specs.Track.{pair, At, Outcome, carried, started}
 use Rattle.rules.specs.Step.{Stepped, stepped, in-sequence, by-left, step}
 use Rattle.rules.proofs.Derived.{step-derived}
 use Rattle.rules.proofs.Stripped.{ends-at-Ω}
 use Rattle.control.proofs.Chains.{Awaiting as Behind}
-use Rattle.control.specs.declared.Event.{Event}
-use Rattle.control.specs.declared.Event.the-variants.{Tau, Tick, Visible}
+use Rattle.rules.specs.declared.Event.{Event}
 use Rattle.control.specs.words.Sums.{capped}
 use Rattle.looking.specs.code.Looking.{digit-at}
 use Rattle.weights.specs.code.Rules as Rules
@@ -33,12 +31,6 @@ use Rattle.weights.specs.declared.Weight.{Weight}
 use Rattle.weights.specs.declared.Weighed.{Weighed}
 use Rattle.weights.specs.declared.Weighed.the-variants.{Derived, Nothing}
 use Rattle.control.proofs.Capped.{capped-small, capped-left}
-
--- events and digits as the code has them
-unfoldable pub told : Live.Event → Event
-told τ = Tau
-told ✓ = Tick
-told (visible e) = Visible e
 
 unfoldable pub number : Digit → ℕ
 number one = 1
@@ -54,7 +46,7 @@ From ds count at (d ∷ a) = (digit-at ds count at ≡ number d) × From ds coun
 -- the weight of an outcome, and where its digits end
 unfoldable pub weight : ℕ → Outcome → Address → Weight
 weight count r a = record {
-  event = told (r .event);
+  event = r .event;
   at = count - length a;
   size = capped (cells (r .process));
   nodes = capped (length (r .labels));
@@ -110,7 +102,7 @@ pub visible-goes-on : (e : ℕ) → visible e ≡ ✓ → ⊥
 visible-goes-on e h = let z : _≡_ {A = ℕ} 0 1 = cc in omega arith
 
 -- a step that does not end goes on inside
-stays-inside : (w : Place) (Q : Process) (r : Outcome) (a : Address) (v : Live.Event) → (v ≡ ✓ → ⊥)
+stays-inside : (w : Place) (Q : Process) (r : Outcome) (a : Address) (v : Event) → (v ≡ ✓ → ⊥)
     → in-sequence v w Q r a ≡ stepped (carried r (sequence w true (r .process) Q)) a
 unfolding in-sequence
 stays-inside w Q r a τ h = refl
@@ -118,7 +110,7 @@ stays-inside w Q r a ✓ h = absurd (h refl)
 stays-inside w Q r a (visible e) h = refl
 
 -- and one that ends starts the right
-starts-inside : (w : Place) (Q : Process) (r : Outcome) (a : Address) (v : Live.Event) → v ≡ ✓
+starts-inside : (w : Place) (Q : Process) (r : Outcome) (a : Address) (v : Event) → v ≡ ✓
     → in-sequence v w Q r a ≡ stepped (started r Q w) a
 unfolding in-sequence
 starts-inside w Q r a v e = rw e
@@ -132,9 +124,9 @@ wrapped-on (q ∷ qs) r a h =
     ∙ wrapped-on qs (carried r (sequence (q .place) true (r .process) (q .right))) a h
 
 -- a step that does not end stays as it is
-quiet : (v : Live.Event) → (v ≡ ✓ → ⊥) → (w : Weight) (b : Bool) → w .event ≡ told v
+quiet : (v : Event) → (v ≡ ✓ → ⊥) → (w : Weight) (b : Bool) → w .event ≡ v
     → settled (Derived w) b ≡ Derived w
-unfolding settled told Rules.started
+unfolding settled Rules.started
 quiet τ h w true e = rw e
 quiet τ h w false e = refl
 quiet ✓ h w b e = absurd (h refl)
@@ -149,17 +141,17 @@ module _ (count : ℕ) where
   -- what a step that does not end weighs with the sequences around it
   pub weight-on : (qs : List Behind) (r : Outcome) (a : Address) → (r .event ≡ ✓ → ⊥)
       → weight-of count (wrapped qs (stepped r a))
-      ≡ weight-inside qs (told (r .event)) r a
+      ≡ weight-inside qs (r .event) r a
   unfolding weight-of weight resized carried
   weight-on qs r a h = rw (wrapped-on qs r a h, nested-cells qs (r .process))
 
-  weight-still : (qs : List Behind) (r : Outcome) (a : Address) (v : Live.Event) → r .event ≡ v → (v ≡ ✓ → ⊥)
+  weight-still : (qs : List Behind) (r : Outcome) (a : Address) (v : Event) → r .event ≡ v → (v ≡ ✓ → ⊥)
       → weight-of count (wrapped qs (stepped r a))
-      ≡ settled (weight-inside qs (told v) r a) (some-behind qs)
+      ≡ settled (weight-inside qs v r a) (some-behind qs)
   unfolding resized
   weight-still qs r a v e n =
       weight-on qs r a (λ h. n (sym e ∙ h))
-      ∙ ap (λ u. weight-inside qs (told u) r a) e
+      ∙ ap (λ u. weight-inside qs u r a) e
       ∙ sym (quiet v n _ (some-behind qs) refl)
 
   -- and one that ends
@@ -167,7 +159,7 @@ module _ (count : ℕ) where
       → Single qs → length qs < 65535
       → weight-of count (wrapped qs (stepped r a))
       ≡ settled (weight-inside qs Tick r a) (some-behind qs)
-  unfolding weight-of weight resized settled some-behind wrapped by-left in-sequence started Rules.started told
+  unfolding weight-of weight resized settled some-behind wrapped by-left in-sequence started Rules.started
   weight-over [] r a e c u l = rw (e, zero-add (cells (r .process)))
   weight-over (q ∷ qs) r a e c u l =
       let less : suc (length qs) + 1 - 1 ≡ length qs + 1 = omega arith in
@@ -186,11 +178,11 @@ module _ (count : ℕ) where
         less,
       )
 
-  weight-by : (v : Live.Event) (qs : List Behind) (r : Outcome) (a : Address) → r .event ≡ v
+  weight-by : (v : Event) (qs : List Behind) (r : Outcome) (a : Address) → r .event ≡ v
       → (v ≡ ✓ → cells (r .process) ≡ 1) → Single qs → length qs < 65535
       → weight-of count (wrapped qs (stepped r a))
-      ≡ settled (weight-inside qs (told v) r a) (some-behind qs)
-  unfolding resized told
+      ≡ settled (weight-inside qs v r a) (some-behind qs)
+  unfolding resized
   weight-by τ qs r a e c u l = weight-still qs r a τ e τ-goes-on
   weight-by ✓ qs r a e c u l = weight-over qs r a e (c refl) u l
   weight-by (visible n) qs r a e c u l = weight-still qs r a (visible n) e (visible-goes-on n)
@@ -199,7 +191,7 @@ module _ (count : ℕ) where
   pub weight-settled : (qs : List Behind) (r : Outcome) (a : Address) → (r .event ≡ ✓ → cells (r .process) ≡ 1)
       → Single qs → length qs < 65535
       → weight-of count (wrapped qs (stepped r a))
-      ≡ settled (weight-inside qs (told (r .event)) r a) (some-behind qs)
+      ≡ settled (weight-inside qs (r .event) r a) (some-behind qs)
   weight-settled qs r a c u l = weight-by (r .event) qs r a refl c u l
 
 -- a digit is not 0

@@ -1,12 +1,15 @@
 // Weighing a step: what the derivation that an address names would show and add, read off the control and the
 // terms below it, from the outside inward. Nothing is written. The recursion goes at most 2,048 calls deep.
+use columns::Payloads;
 use control::ENTERED;
 use control::FRAME;
+use control::Nodes;
 use control::OMEGA;
 use control::SIDES;
 use control::SIZES;
 use control::STATE;
 use control::TERM;
+use control::Track;
 use control::UNTOUCHED;
 use control::less;
 use control::sum;
@@ -19,10 +22,14 @@ use looking::is_within;
 use looking::parents;
 use looking::set_of;
 use looking::taken;
+use plans::PARALLEL_WORD;
+use plans::Plan;
+use plans::SEQUENCE_WORD;
 use plans::around_of;
 use plans::kind_of;
 use plans::operand_of;
 use plans::second_of;
+use scripts::Digits;
 use weights::Weighed;
 use weights::both;
 use weights::by_leaf;
@@ -34,10 +41,8 @@ ghost use mathlib.Core.Path.{_≡_};
 ghost use Rattle.weighing.specs.code.Weigh as spec;
 ghost use Rattle.weighing.specs.code.Ending as ending;
 
-const SEQUENCE: usize = 5;
-
 // How many levels of a term are gone down to, at most: a path has at most 64 digits.
-const LEVELS: usize = 66;
+const WEIGH_LEVELS: usize = 66;
 
 // Weighs the step of a term that no step has touched, by the digits from `at` on; `nested` where a sequence is
 // around it by its frame. Its part of control has `size` cells.
@@ -48,9 +53,9 @@ pub fn weigh_term(
     size: usize,
     left: usize,
     count: usize,
-    digits: &[u8; 1024],
-    plan: &[u16; 4096],
-    sets: &[u64; 1024],
+    digits: &Digits,
+    plan: &Plan,
+    sets: &Payloads,
 ) -> Weighed
     ensures { λ r. ⌜ r ≡ spec.of-term (now (plan .entry)) (now (sets .entry)) count (now (digits .entry))
         left t nested at size ⌝ }
@@ -61,7 +66,7 @@ pub fn weigh_term(
     let kind = kind_of(t, plan);
     let less = left - 1;
     let first = sum(t, 1);
-    if kind == SEQUENCE {
+    if kind == SEQUENCE_WORD {
         let larger = sum(size, 1);
         return weigh_term(first, nested, at, larger, less, count, digits, plan, sets);
     }
@@ -104,11 +109,11 @@ pub fn weigh_at(
     left: usize,
     count: usize,
     arcs: usize,
-    digits: &[u8; 1024],
-    plan: &[u16; 4096],
-    sets: &[u64; 1024],
-    nodes: &[u16; 65544],
-    track: &[u16; 28672],
+    digits: &Digits,
+    plan: &Plan,
+    sets: &Payloads,
+    nodes: &Nodes,
+    track: &Track,
 ) -> Weighed
     ensures { λ r. ⌜ r ≡ spec.at-reference (now (plan .entry)) (now (sets .entry)) count (now (digits .entry))
         (now (nodes .entry)) (now (track .entry)) arcs left n t bound at size ⌝ }
@@ -117,7 +122,7 @@ pub fn weigh_at(
         return Weighed::Nothing;
     }
     if n == 0 {
-        let found = weigh_term(t, false, at, 1, LEVELS, count, digits, plan, sets);
+        let found = weigh_term(t, false, at, 1, WEIGH_LEVELS, count, digits, plan, sets);
         return entering(found, 0);
     }
     let state = word(n, STATE, nodes);
@@ -129,7 +134,7 @@ pub fn weigh_at(
             frame != bound,
             at,
             size,
-            LEVELS,
+            WEIGH_LEVELS,
             count,
             digits,
             plan,
@@ -196,8 +201,6 @@ pub fn weigh_at(
     both(kind, set, found, across, size, own, other)
 }
 
-const PARALLEL: usize = 6;
-
 // Weighs the end of a parallel whose sides have ended.
 pub fn weigh_end(
     n: usize,
@@ -206,12 +209,12 @@ pub fn weigh_end(
     size: usize,
     within: bool,
     arcs: usize,
-    nodes: &[u16; 65544],
-    track: &[u16; 28672],
+    nodes: &Nodes,
+    track: &Track,
 ) -> Weighed
     ensures { λ r. ⌜ r ≡ ending.weigh-end (now (nodes .entry)) (now (track .entry)) arcs n kind at size within ⌝ }
 {
-    if kind != PARALLEL {
+    if kind != PARALLEL_WORD {
         return Weighed::Nothing;
     }
     let first = word(n, SIDES + 1, nodes);

@@ -9,9 +9,9 @@ use denote.Enum.Declared.{tagOf, declared}
 use borrow.Author.Tests.{le-leb, lt-leb, eq-eqb, ne-eqb}
 use Rattle.kinds.specs.Kind as Kind
 use Rattle.sets.specs.EventSet.{member}
-use Rattle.control.specs.declared.Event.{Event}
-use Rattle.control.specs.declared.Event.the-variants.{Tau, Tick, Visible}
-use Rattle.control.proofs.Event.{enum}
+use Rattle.rules.specs.declared.Event.{Event}
+use Rattle.rules.specs.declared.Event.the-variants.{Tau, Tick, Visible}
+use Rattle.rules.proofs.Event.{enum}
 use Rattle.control.specs.words.Sums.{capped}
 use Rattle.weights.specs.code.Rules.{step, started, settled, by-leaf, entering, end-of, barred, stays}
 use Rattle.weights.specs.code.Rules.{shown, resized, one, agree, both, ended}

@@ -1,8 +1,14 @@
 // What each rule makes of the weights of its premises: nothing here looks at control or terms. It relies on sets of events.
-use control::Event;
 use control::less;
 use control::product;
 use control::sum;
+use plans::CALL_WORD;
+use plans::INTERNAL_WORD;
+use plans::PARALLEL_WORD;
+use plans::PREFIX_WORD;
+use plans::SKIP_WORD;
+use plans::STOP_WORD;
+use rules::Event;
 use sets::has;
 ghost use mathlib.Core.Path.{_≡_};
 ghost use Rattle.weights.specs.code.Rules as spec;
@@ -24,18 +30,6 @@ pub enum Weighed {
     Derived(Weight),
     Nothing,
 }
-
-const CALL: usize = 1;
-
-const PREFIX: usize = 2;
-
-const INTERNAL: usize = 3;
-
-const PARALLEL: usize = 6;
-
-const SKIP: usize = 7;
-
-const STOP: usize = 8;
 
 // A step that labels and draws as often as it says, inside nothing.
 fn step(event: Event, at: usize, size: usize, count: usize, met: usize) -> Weighed
@@ -63,19 +57,19 @@ pub fn by_leaf(
 ) -> Weighed
     ensures { λ r. ⌜ r ≡ spec.by-leaf kind operand digit within at size ⌝ }
 {
-    if kind == PREFIX {
+    if kind == PREFIX_WORD {
         return step(Event::Visible((operand % 256) as u8), at, size, 2, 1);
     }
-    if kind == SKIP {
+    if kind == SKIP_WORD {
         return settled(step(Event::Tick, at, size, 1, 0), within);
     }
-    if kind == CALL {
+    if kind == CALL_WORD {
         return step(Event::Tau, at, size, 1, 0);
     }
-    if kind == STOP {
+    if kind == STOP_WORD {
         return step(Event::Tau, at, size, 1, 0);
     }
-    if kind != INTERNAL {
+    if kind != INTERNAL_WORD {
         return Weighed::Nothing;
     }
     if digit == 0 {
@@ -240,7 +234,7 @@ fn resized(event: Event, size: usize, w: Weight) -> Weight
 fn is_barred(kind: usize, set: u64, event: Event) -> bool
     ensures { λ r. ⌜ r ≡ spec.barred kind set event ⌝ }
 {
-    if kind != PARALLEL {
+    if kind != PARALLEL_WORD {
         return false;
     }
     match event {
@@ -254,7 +248,7 @@ fn is_barred(kind: usize, set: u64, event: Event) -> bool
 pub fn stays(kind: usize, event: Event) -> bool
     ensures { λ r. ⌜ r ≡ spec.stays kind event ⌝ }
 {
-    if kind == PARALLEL {
+    if kind == PARALLEL_WORD {
         return true;
     }
     match event {
@@ -268,7 +262,7 @@ pub fn stays(kind: usize, event: Event) -> bool
 pub fn shown(kind: usize, event: Event) -> Event
     ensures { λ r. ⌜ r ≡ spec.shown kind event ⌝ }
 {
-    if kind != PARALLEL {
+    if kind != PARALLEL_WORD {
         return event;
     }
     match event {
@@ -282,7 +276,7 @@ pub fn shown(kind: usize, event: Event) -> Event
 fn agree(kind: usize, set: u64, left: Event, right: Event) -> bool
     ensures { λ r. ⌜ r ≡ spec.agree kind set left right ⌝ }
 {
-    if kind != PARALLEL {
+    if kind != PARALLEL_WORD {
         return false;
     }
     let Event::Visible(a) = left else {

@@ -1,33 +1,31 @@
 // Graphs written: a graph in columns becomes lines of hexadecimal in a lent slice. Its length is told first, so that a slice
 // that is too short is left as it was.
+use columns::After;
+use columns::Kinds;
+use columns::Owners;
+use columns::Roots;
+use control::MEETINGS_FROM;
+use control::REFERENCES;
+use control::Track;
 use framing::nodes_length;
 use framing::put_last;
 use framing::put_nodes;
 use framing::put_opening;
 use framing::put_pairs;
+use graphs::ARC_FRAME;
+use graphs::MEETING_FRAME;
+use lines::SLICE_TOO_SHORT;
+use links::Column;
 use links::Counts;
 use links::at_most;
+use rules::ARC_ROOM;
+use rules::MEETING_ROOM;
 ghost use mathlib.Core.Path.{_≡_};
 ghost use lib.ListN.{length};
 ghost use Rattle.columns.specs.words.Columns.{columns};
 ghost use Rattle.graphs.specs.Saved.{graph-text};
 ghost use Rattle.framing.specs.words.Told.{graph-told};
 ghost use Rattle.writing.specs.words.Slice.{answer, left, refusal};
-
-// Rooms of a graph in columns.
-const REFERENCES: usize = 8193;
-
-const ARCS: usize = 8192;
-
-const MEETINGS: usize = 4096;
-
-// Where the meetings begin in a track.
-const MEETINGS_FROM: usize = 16384;
-
-// First bytes of frames.
-const ARC: u8 = 50;
-
-const MEETING: u8 = 51;
 
 // Bytes of the first and the last line, and of an arc's or a meeting's.
 const FRAME_LINES: usize = 20;
@@ -44,12 +42,12 @@ pub enum Saved {
 // past the text keep their content.
 pub fn write(
     counts: Counts,
-    labels: &[u16; 8193],
-    graph: &[u16; 28672],
-    kinds: &[u8; 1024],
-    owners: &[u8; 1024],
-    after: &[u16; 1024],
-    roots: &[u16; 64],
+    labels: &Column,
+    graph: &Track,
+    kinds: &Kinds,
+    owners: &Owners,
+    after: &After,
+    roots: &Roots,
     text: &mut [u8],
 ) -> Saved
     ensures { λ r. ⌜ r ≡ answer (graph-text (graph-told
@@ -60,8 +58,8 @@ pub fn write(
         (now (labels .entry)) (now (graph .entry)) counts)) (now (text .entry)) ⌝ }
 {
     let n = at_most(counts.nodes, REFERENCES);
-    let a = at_most(counts.arcs, ARCS);
-    let s = at_most(counts.meetings, MEETINGS);
+    let a = at_most(counts.arcs, ARC_ROOM);
+    let s = at_most(counts.meetings, MEETING_ROOM);
     let size = nodes_length(n, labels, kinds, owners, after, roots)
         + PAIR_LINE * a
         + PAIR_LINE * s
@@ -71,8 +69,8 @@ pub fn write(
     }
     let behind_opening = put_opening(n, a, s, text);
     let behind_nodes = put_nodes(n, labels, kinds, owners, after, roots, behind_opening, text);
-    let behind_arcs = put_pairs(ARC, 0, a, graph, behind_nodes, text);
-    let behind_meetings = put_pairs(MEETING, MEETINGS_FROM, s, graph, behind_arcs, text);
+    let behind_arcs = put_pairs(ARC_FRAME, 0, a, graph, behind_nodes, text);
+    let behind_meetings = put_pairs(MEETING_FRAME, MEETINGS_FROM, s, graph, behind_arcs, text);
     put_last(behind_meetings, text);
     Saved::Written(size)
 }
@@ -83,6 +81,6 @@ pub fn refusal_of(saved: Saved) -> u8
 {
     match saved {
         Saved::Written(_) => 0,
-        Saved::Short(_) => 12,
+        Saved::Short(_) => SLICE_TOO_SHORT,
     }
 }

@@ -18,7 +18,7 @@ wide-requires : tie.Need-wide-requires
 wide-requires c κs = search needs
 
 returns-2 : tie.Need-returns-2
-returns-2 c = c .wide .ensures ∙ topmost-last _ _ (c .before .before .if1 .left)
+returns-2 c = c .wide .ensures .0 ∙ topmost-last _ _ (c .before .before .if1 .left)
 
 pub last-spec : {M : Type 1} → statement M
 last-spec = tie.close (tie.spec returns sub-at element-copy-out-wide wide-requires returns-2)

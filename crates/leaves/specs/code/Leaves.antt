@@ -7,8 +7,8 @@ use Rattle.kinds.specs.Kind as Kind
 use Rattle.plans.specs.words.Plan.{kind, operand, second, around}
 use Rattle.control.specs.words.Words.{node}
 use Rattle.control.specs.words.Control.{term, frame, resting, at-end, dead, beyond}
-use Rattle.control.specs.declared.Event.{Event}
-use Rattle.control.specs.declared.Event.the-variants.{Tau, Tick, Visible}
+use Rattle.rules.specs.declared.Event.{Event}
+use Rattle.rules.specs.declared.Event.the-variants.{Tau, Tick, Visible}
 use Rattle.control.specs.words.Sums.{capped}
 use Rattle.looking.specs.code.Looking.{taken}
 use Rattle.drawing.specs.code.Drawing.{one-node, one-arc, one-met, drawn, labelled, standing, with-arc}

@@ -8,7 +8,7 @@ use lib.Dec.{leb}
 use Rattle.lines.specs.Line.{choose, Raw, lines, text}
 use Rattle.scripts.specs.Script as Script
 use Rattle.plans.specs.code.Laid.{laid-out}
-use Rattle.control.specs.declared.Event.{Event}
+use Rattle.rules.specs.declared.Event.{Event}
 use Rattle.offers.specs.code.Offering as offers
 use Rattle.runs.specs.code.Doors as run
 use Rattle.playing.specs.code.Playing as plays
@@ -16,9 +16,8 @@ use Rattle.counting.specs.code.Counting.{reference}
 use Rattle.playing.specs.declared.Played.{Played}
 use Rattle.playing.specs.declared.Played.the-variants.{Stepped, Refused, End}
 use Rattle.saving.specs.code.Saving.{text-of}
-use Rattle.telling.specs.ListingFrame.{alone}
+use Rattle.telling.specs.ListingFrame.{alone, step-frame, status-frame}
 use Rattle.listing.specs.Listing.{within-room, script-room}
-use Rattle.telling.specs.code.Shown.{shown-step, shown-status}
 
 -- what lines of a script come to: the events of the accepted steps, the number of the refusal that ended them, 0 where
 -- there was none, at which line, and the words afterwards
@@ -90,8 +89,8 @@ module _ (p x ks os xs rs : List ℕ) where
   -- what is told of a script that has stopped
   unfoldable pub stopped-text : Stopped → List ℕ
   stopped-text z =
-      text (map shown-step (z .events))
-      ++ text (shown-status (offers.status p x (z .nodes) (reference (z .counters))) ∷ [])
+      text (map step-frame (z .events))
+      ++ text (status-frame (offers.status p x (z .nodes) (reference (z .counters))) ∷ [])
       ++ stop-text (z .number) (z .line)
       ++ within-room (text-of ks os xs rs (z .nodes) (z .track) (z .counters))
 

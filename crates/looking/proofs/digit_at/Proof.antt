@@ -17,7 +17,7 @@ wide-requires c κs = search needs
 
 returns-2 : tie.Need-returns-2
 returns-2 c =
-    c .wide .ensures ∙ digit-in _ _ _ (c .before .before .before .if1 .left) (c .before .before .if2 .taken)
+    c .wide .ensures .0 ∙ digit-in _ _ _ (c .before .before .before .if1 .left) (c .before .before .if2 .taken)
 
 returns-3 : tie.Need-returns-3
 returns-3 c = digit-out _ _ _ (c .before .if1 .left) (c .if2 .left)

@@ -14,8 +14,8 @@ use Rattle.plans.specs.words.Plan.{kind, operand, second, around}
 use Rattle.control.specs.words.Control.{state, term, frame, first, second-side, resting, entered, at-end}
 use Rattle.control.specs.words.Control.{beyond}
 use Rattle.offers.specs.declared.Offered.{Offered}
-use Rattle.offers.specs.declared.Status.{Status}
-use Rattle.offers.specs.declared.Status.the-variants.{Live, Ended, Stuck}
+use Rattle.rules.specs.declared.Status.{Status}
+use Rattle.rules.specs.declared.Status.the-variants.{Live, Ended, Stuck}
 
 -- what is offered: whether τ is, whether ✓ is, and whether each event is
 pub record Offer : Type 0 where

@@ -9,13 +9,10 @@ use Rattle.sets.specs.EventSet.{member}
 use Rattle.frames.specs.TableFrame.{path-room, event-room}
 use Rattle.rules.specs.Process.{Process, main, cells}
 use Rattle.rules.specs.Run.{cell-room}
-use Rattle.rules.specs.Offers.{offers-τ, offers-✓, offers-event, live, ended, stuck}
-use Rattle.rules.specs.Offers as Report
+use Rattle.rules.specs.Offers.{offers-τ, offers-✓, offers-event}
 use Rattle.plans.specs.words.Plan.{Layout}
 use Rattle.control.specs.words.Control.{Holds}
 use Rattle.offers.specs.declared.Offered.{Offered}
-use Rattle.offers.specs.declared.Status.{Status}
-use Rattle.offers.specs.declared.Status.the-variants.{Live, Ended, Stuck}
 use Rattle.offers.specs.code.Offering.{Offer}
 
 -- what a control offers
@@ -42,9 +39,3 @@ pub record Tells (r : Offered) (P : Process) : Type 0 where
 pub record Covers (e : ℕ) (P : Process) : Type 0 where
   pub in-room : e ≤ event-room
   pub all-below : (k : ℕ) → offers-event k P ≡ true → k < e
-
--- the paper's status for each of the answer's cases: 00 live, 01 ended, 02 stuck
-unfoldable pub status-of : Status → Report.Status
-status-of Live = live
-status-of Ended = ended
-status-of Stuck = stuck

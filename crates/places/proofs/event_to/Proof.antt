@@ -8,11 +8,11 @@ use borrow.Author.Needs.{needs}
 use Rattle.places.proofs.event_to.Statement.{statement}
 use Rattle.places.proofs.event_to.Tie as tie
 
-byte-of-requires : tie.Need-byte-of-requires
-byte-of-requires c κs = search needs
+kind-of-requires : tie.Need-kind-of-requires
+kind-of-requires c κs = search needs
 
 returns : tie.Need-returns
-returns c = event-none (columns _ _ _ _) _ _ (λ e. c .if1 .taken (c .before .byte-of .ensures ∙ e))
+returns c = event-none (columns _ _ _ _) _ _ (λ e. c .if1 .taken (c .before .kind-of .ensures ∙ e))
 
 path-to-requires : tie.Need-path-to-requires
 path-to-requires c κs = search needs
@@ -26,13 +26,13 @@ enum-told c = search needs
 returns-2 : tie.Need-returns-2
 returns-2 c =
     let b = c .before .before in
-    let is = sym (b .before .before .before .byte-of .ensures) ∙ b .before .before .if1 .left in
+    let is = sym (b .before .before .before .kind-of .ensures) ∙ b .before .before .if1 .left in
     event-astray (columns _ _ _ _) _ _ is _ _ (b .path-to .ensures) (c .enum-told .given .1)
 
 element-write-path : tie.Need-element-write-path
 element-write-path c =
     let b = c .before .before .before in
-    let is = sym (b .before .before .before .byte-of .ensures) ∙ b .before .before .if1 .left in
+    let is = sym (b .before .before .before .kind-of .ensures) ∙ b .before .before .if1 .left in
     let at = c .before .reached .given .1 in
     let e = event-room (columns _ _ _ _) _ _ is _ _ (b .path-to .ensures) _ at in
     omega arith
@@ -43,7 +43,7 @@ add-t14 c = omega (arith, element-write-path c)
 returns-3 : tie.Need-returns-3
 returns-3 c =
     let b = c .before .before .before in
-    let is = sym (b .before .before .before .byte-of .ensures) ∙ b .before .before .if1 .left in
+    let is = sym (b .before .before .before .kind-of .ensures) ∙ b .before .before .if1 .left in
     let at = c .before .reached .given .1 in
     event-ends (columns _ _ _ _) _ _ is _ _ (b .path-to .ensures) _ at
 
@@ -51,7 +51,7 @@ pub event-to-spec : {M : Type 1} → statement M
 event-to-spec =
     tie.close
     (tie.spec
-    byte-of-requires
+    kind-of-requires
     returns
     path-to-requires
     enum-known-reached

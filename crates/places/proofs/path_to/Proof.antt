@@ -7,8 +7,8 @@ use borrow.Author.Needs.{needs}
 use Rattle.places.proofs.path_to.Statement.{statement}
 use Rattle.places.proofs.path_to.Tie as tie
 
-byte-of-requires : tie.Need-byte-of-requires
-byte-of-requires c κs = search needs
+owner-of-requires : tie.Need-owner-of-requires
+owner-of-requires c κs = search needs
 
 wide-requires : tie.Need-wide-requires
 wide-requires c κs = search needs
@@ -22,10 +22,10 @@ descend-requires c κs = search needs
 returns : tie.Need-returns
 returns c =
     let b = c .before .before .before in
-    let owner = b .wide .ensures ∙ b .before .byte-of .ensures in
+    let owner = b .wide .ensures .0 ∙ b .before .owner-of .ensures in
     own-path (columns _ _ _ _) _ _ _ _ _ _ (c .before .before .root-of .ensures ∙ ap (look 64 _) owner)
     (c .descend .ensures)
 
 pub path-to-spec : {M : Type 1} → statement M
 path-to-spec =
-    tie.close (tie.spec byte-of-requires wide-requires root-of-requires descend-requires returns)
+    tie.close (tie.spec owner-of-requires wide-requires root-of-requires descend-requires returns)

@@ -14,8 +14,8 @@ element-write-path c = search needs
 enum-known-literal-2 : tie.Need-enum-known-literal-2
 enum-known-literal-2 c = search needs
 
-byte-of-requires : tie.Need-byte-of-requires
-byte-of-requires c κs = search needs
+owner-of-requires : tie.Need-owner-of-requires
+owner-of-requires c κs = search needs
 
 path-to-requires : tie.Need-path-to-requires
 path-to-requires c κs = search needs
@@ -26,8 +26,8 @@ answer-of-requires c κs = search needs
 enum-known-literal-3 : tie.Need-enum-known-literal-3
 enum-known-literal-3 c = search needs
 
-byte-of-requires-2 : tie.Need-byte-of-requires-2
-byte-of-requires-2 c κs = search needs
+owner-of-requires-2 : tie.Need-owner-of-requires-2
+owner-of-requires-2 c κs = search needs
 
 event-to-requires : tie.Need-event-to-requires
 event-to-requires c κs = search needs
@@ -41,14 +41,14 @@ returns c = left-placed (columns _ _ _ _) _ _ _ (c .before .literal .given .1)
 returns-2 : tie.Need-returns-2
 returns-2 c =
     let b = c .before .before .before in
-    own-placed (columns _ _ _ _) _ _ _ _ _ _ _ (b .byte-of .ensures) (c .answer-of .ensures)
+    own-placed (columns _ _ _ _) _ _ _ _ _ _ _ (b .owner-of .ensures) (c .answer-of .ensures)
     (b .before .before .literal2 .given .1)
     (c .before .path-to .ensures)
 
 returns-3 : tie.Need-returns-3
 returns-3 c =
     let b = c .before .before .before in
-    event-placed (columns _ _ _ _) _ _ _ _ _ _ _ (b .byte-of2 .ensures) (c .answer-of2 .ensures)
+    event-placed (columns _ _ _ _) _ _ _ _ _ _ _ (b .owner-of2 .ensures) (c .answer-of2 .ensures)
     (b .before .before .literal3 .given .1)
     (c .before .event-to .ensures)
 
@@ -59,11 +59,11 @@ place-spec =
     enum-known-literal
     element-write-path
     enum-known-literal-2
-    byte-of-requires
+    owner-of-requires
     path-to-requires
     answer-of-requires
     enum-known-literal-3
-    byte-of-requires-2
+    owner-of-requires-2
     event-to-requires
     answer-of-requires-2
     returns

@@ -4,7 +4,7 @@ use mathlib.Core.List.{List, [], _∷_}
 use lib.ListN.{replicate}
 use lib.Dec.{eqb}
 use Rattle.lines.specs.Line.{choose}
-use Rattle.control.specs.declared.Event.the-variants.{Tau}
+use Rattle.rules.specs.declared.Event.the-variants.{Tau}
 use Rattle.weighing.specs.code.Weigh.{at-reference}
 use Rattle.weights.specs.declared.Weighed.{Weighed}
 use Rattle.weights.specs.declared.Weighed.the-variants.{Derived, Nothing}

@@ -8,7 +8,7 @@ use mathlib.Core.Option.{Option, none, some}
 use lib.ListN.{length, getElem?}
 use Rattle.frames.specs.TableFrame.{term-room}
 use Rattle.terms.specs.Term.{Term, Within}
-use Rattle.rules.specs.Process.{Event, τ, ✓, visible, Address}
+use Rattle.rules.specs.Process.{Address}
 use Rattle.rules.specs.Process as Process
 use Rattle.rules.specs.Run.{State, start, Reached}
 use Rattle.rules.specs.Run as Run
@@ -16,8 +16,6 @@ use Rattle.plans.specs.words.Plan.{Layout, around}
 use Rattle.plans.specs.words.Plan as Plan
 use Rattle.control.specs.words.Words.{node, track-words}
 use Rattle.control.specs.words.Control.{label, state, first, second-side, resting}
-use Rattle.control.specs.declared.Event.the-variants.{Tau, Tick, Visible}
-use Rattle.control.specs.declared.Event as Shown
 use Rattle.looking.specs.code.Looking.{digit-at}
 use Rattle.control.specs.words.Views.{arcs-of, meetings-of, marked}
 use Rattle.offers.specs.words.Told.{Low, Controls}
@@ -75,15 +73,9 @@ address-from ds count at (suc n) = with-digit (digit-of (digit-at ds count at)) 
 abbrev pub addressed : List ℕ → ℕ → Option Address
 addressed ds count = address-from ds count 0 count
 
--- the events as the answer has them
-unfoldable pub told-event : Event → Shown.Event
-told-event τ = Tau
-told-event ✓ = Tick
-told-event (visible e) = Visible e
-
 -- the answer's case for each of document 01's, with its number and value
 unfoldable pub told : Run.Answer → Answer
-told (Run.accepted e s) = Accepted (record { event = told-event e })
+told (Run.accepted e s) = Accepted (record { event = e })
 told (Run.refused n) = Refused n
 
 -- the state behind an answer: a refused step leaves it as it was

@@ -3,7 +3,7 @@
 use native.Mathlib.Omega.{arith}
 use borrow.Author.Needs.{needs}
 use Rattle.lines.specs.Line.{hex}
-use Rattle.telling.specs.code.Shown.{shown-step}
+use Rattle.telling.specs.ListingFrame.{step-frame}
 use Rattle.telling.proofs.Laws.{byte-first}
 use Rattle.telling.proofs.put_event.Statement.{statement}
 use Rattle.telling.proofs.put_event.Tie as tie
@@ -40,7 +40,7 @@ same-length : tie.Need-same-length
 same-length c = search needs
 
 returns : tie.Need-returns
-unfolding shown-step
+unfolding step-frame
 returns c =
     let last = c .before .before in
     let told = last .before .before in
@@ -51,7 +51,7 @@ same-length-2 : tie.Need-same-length-2
 same-length-2 c = search needs
 
 returns-2 : tie.Need-returns-2
-unfolding shown-step
+unfolding step-frame
 returns-2 c =
     let last = c .before .before in
     let told = last .before .before in
@@ -62,7 +62,7 @@ same-length-3 : tie.Need-same-length-3
 same-length-3 c = search needs
 
 returns-3 : tie.Need-returns-3
-unfolding shown-step
+unfolding step-frame
 returns-3 c =
     let last = c .before .before in
     let second = last .before .before .before .before in

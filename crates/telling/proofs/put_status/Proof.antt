@@ -3,7 +3,7 @@
 use native.Mathlib.Omega.{arith}
 use borrow.Author.Needs.{needs}
 use Rattle.lines.specs.Line.{hex}
-use Rattle.telling.specs.code.Shown.{shown-status}
+use Rattle.telling.specs.ListingFrame.{status-frame}
 use Rattle.telling.proofs.Laws.{byte-first}
 use Rattle.telling.proofs.put_status.Statement.{statement}
 use Rattle.telling.proofs.put_status.Tie as tie
@@ -36,7 +36,7 @@ same-length : tie.Need-same-length
 same-length c = search needs
 
 returns : tie.Need-returns
-unfolding shown-status
+unfolding status-frame
 returns c =
     let last = c .before .before in
     let told = last .before .before in
@@ -47,7 +47,7 @@ same-length-2 : tie.Need-same-length-2
 same-length-2 c = search needs
 
 returns-2 : tie.Need-returns-2
-unfolding shown-status
+unfolding status-frame
 returns-2 c =
     let last = c .before .before in
     let told = last .before .before in
@@ -58,7 +58,7 @@ same-length-3 : tie.Need-same-length-3
 same-length-3 c = search needs
 
 returns-3 : tie.Need-returns-3
-unfolding shown-status
+unfolding status-frame
 returns-3 c =
     let last = c .before .before in
     let told = last .before .before in

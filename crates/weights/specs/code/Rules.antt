@@ -5,8 +5,8 @@ use lib.Dec.{eqb, leb}
 use Rattle.lines.specs.Line.{choose}
 use Rattle.kinds.specs.Kind as Kind
 use Rattle.sets.specs.EventSet.{member}
-use Rattle.control.specs.declared.Event.{Event}
-use Rattle.control.specs.declared.Event.the-variants.{Tau, Tick, Visible}
+use Rattle.rules.specs.declared.Event.{Event}
+use Rattle.rules.specs.declared.Event.the-variants.{Tau, Tick, Visible}
 use Rattle.control.specs.words.Sums.{capped}
 use Rattle.weights.specs.declared.Weight.{Weight}
 use Rattle.weights.specs.declared.Weighed.{Weighed}

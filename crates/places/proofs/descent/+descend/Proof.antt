@@ -10,7 +10,7 @@ use borrow.Fn.PlainCycle.{Measures, is, falls, and}
 use Rattle.places.proofs.descent.descend.Reads as descend
 use Rattle.places.proofs.descent.descend.Kinds as descend-kinds
 use Rattle.places.proofs.descent.+descend.Lts-descend as descend-lts
-use Rattle.places.proofs.descent.byte_of.Reads as byte-of-reads
+use Rattle.columns.proofs.kind_of.Reads as kind-of-reads
 use Rattle.places.proofs.descent.step_to.Reads as step-to-reads
 use Rattle.kinds.proofs.subterms.Reads as subterms-reads
 use Rattle.places.proofs.descent.+descend.{statement}
@@ -29,8 +29,8 @@ descend-below t = and 3 descend-kinds.ps (falls 3 descend-kinds.ps _<_ μ t) des
 
 abbrev K : ℕ → descend-lts.Claims
 K t = (
-  byte-of-reads.Asked,
-  byte-of-reads.Learnt,
+  kind-of-reads.Asked,
+  kind-of-reads.Learnt,
   subterms-reads.Asked,
   subterms-reads.Learnt,
   step-to-reads.Asked,
@@ -49,20 +49,20 @@ module _ (t : ℕ) where
       let z : a .most - a .depth ≡ 0 = omega arith in
       way-short _ _ _ _ _ _ _ (c .before .if1 .left) z
 
-  byte-of-requires : descend-lts.Need-byte-of-requires (K t) (given t) descend.Post
-  byte-of-requires c κs = search needs
+  kind-of-requires : descend-lts.Need-kind-of-requires (K t) (given t) descend.Post
+  kind-of-requires c κs = search needs
 
   subterms-requires : descend-lts.Need-subterms-requires (K t) (given t) descend.Post
   subterms-requires c κs = search needs
 
   returns-3 : descend-lts.Need-returns-3 (K t) (given t) descend.Post
   returns-3 c =
-      let count = c .before .subterms .ensures ∙ ap subterms (c .before .before .byte-of .ensures) in
+      let count = c .before .subterms .ensures ∙ ap subterms (c .before .before .kind-of .ensures) in
       way-leaf _ _ _ _ _ _ _ (c .before .before .before .before .if1 .left) (sym count ∙ c .if3 .taken)
 
   step-to-requires : descend-lts.Need-step-to-requires (K t) (given t) descend.Post
   step-to-requires c κs =
-      let count = c .before .subterms .ensures ∙ ap subterms (c .before .before .byte-of .ensures) in
+      let count = c .before .subterms .ensures ∙ ap subterms (c .before .before .kind-of .ensures) in
       inside _ _ (λ z. c .if3 .left (count ∙ z))
 
   add-descend : descend-lts.Need-add-descend (K t) (given t) descend.Post
@@ -84,7 +84,7 @@ module _ (t : ℕ) where
       let a = b .before .before .before .before .args in
       let room = b .before .before .if2 .left in
       let more : a .most - a .depth ≡ suc (a .most - (a .depth + 1)) = omega arith in
-      let count = b .subterms .ensures ∙ ap subterms (b .before .byte-of .ensures) in
+      let count = b .subterms .ensures ∙ ap subterms (b .before .kind-of .ensures) in
       let away = b .before .before .before .if1 .left in
       way-astray _ _ _ _ _ _ _ away _ _ _ _ more count (s .before .if3 .left) (s .step-to .ensures .1)
       (s .step-to .ensures .0) _ _ (c .enum-told .given .1) (c .before .before .descend .ensures)
@@ -99,7 +99,7 @@ module _ (t : ℕ) where
       let a = b .before .before .before .before .args in
       let room = b .before .before .if2 .left in
       let more : a .most - a .depth ≡ suc (a .most - (a .depth + 1)) = omega arith in
-      let count = b .subterms .ensures ∙ ap subterms (b .before .byte-of .ensures) in
+      let count = b .subterms .ensures ∙ ap subterms (b .before .kind-of .ensures) in
       let away = b .before .before .before .if1 .left in
       way-down _ _ _ _ _ _ _ away _ _ _ _ more count (s .before .if3 .left) (s .step-to .ensures .1)
       (s .step-to .ensures .0) _ _ _ (c .before .below .given .1) (c .before .before .before .descend .ensures)
@@ -110,7 +110,7 @@ pub +descend-spec : {M : Type 1} → statement M
     descend-lts.spec (K t) (given t) descend.Post
     (returns t)
     (returns-2 t)
-    (byte-of-requires t)
+    (kind-of-requires t)
     (subterms-requires t)
     (returns-3 t)
     (step-to-requires t)

@@ -1,9 +1,9 @@
--- `finding::root_of` meets its contract, inside the column and past its end. Assumes nothing.
+-- `columns::root_of` meets its contract, inside the column and past its end. Assumes nothing.
 use mathlib.Core.Path.{_∙_}
 use Rattle.columns.proofs.Laws.{look-in, look-out}
 use borrow.Author.Needs.{needs}
-use Rattle.finding.proofs.root_of.Statement.{statement}
-use Rattle.finding.proofs.root_of.Tie as tie
+use Rattle.columns.proofs.root_of.Statement.{statement}
+use Rattle.columns.proofs.root_of.Tie as tie
 
 mul-wide : tie.Need-mul-wide
 mul-wide c = search needs

@@ -1,2 +1,0 @@
--- Mirrors of code: what functions compute whatever they are handed.
-pub mod Shown
