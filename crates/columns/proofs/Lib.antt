@@ -1,2 +1,2 @@
--- Laws of columns.
+-- Laws of this crate: `Laws`, of a word in range and out of it.
 pub mod Laws

@@ -1,2 +1,2 @@
--- Definitions of columns.
+-- The columns of a checked table. Below: `words`, layouts of words and invariants.
 pub mod words

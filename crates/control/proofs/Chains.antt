@@ -14,7 +14,6 @@ use borrow.Author.Tests.{eqb-true, eqb-false, eq-eqb, ne-eqb}
 use Rattle.lines.specs.Line.{choose}
 use Rattle.places.specs.Place.{Place}
 use Rattle.rules.specs.Process.{Split, choice, Process, leaf, prefix, internal, split, sequence, Ω, ⊥′, cells}
-use Rattle.rules.proofs.Holding.{held}
 use Rattle.plans.specs.words.Plan.{Layout, around}
 use Rattle.control.specs.words.Control.{label, term, frame, innermost, behind, Around, beyond, inside}
 use Rattle.control.specs.words.Control.{Stands, Rests, Splits, Follows, Holds}
@@ -64,10 +63,6 @@ module _ (p w : List ℕ) where
     subst (λ m. Around p w k m b ks) (behind-term t u f e) (a .2),
   )
 
-  -- around what has nothing around it
-  pub around-nothing : (u b : ℕ) → around p u ≡ 0 → Around p w u b b []
-  around-nothing u b h = (h, refl)
-
   -- a term inside the sequence of number k has it around it, and then what the sequence has
   pub around-inside : (u f b k : ℕ) (ks : List ℕ) → around p u ≡ suc k → Around p w k f b ks
       → Around p w u f b (k ∷ ks)
@@ -95,12 +90,6 @@ module _ (p w : List ℕ) where
   around-past t f b [] a = let e : f ≡ b = a .1 in omega arith
   around-past t f b (k ∷ ks) a = by-frame (λ g. b ≤ g) t f (λ h. let l : b < f = a .0 h .0 in omega arith)
       (around-past k (behind p w t f) b ks (a .2))
-
-  pub around-drawn : (m t f b : ℕ) (ks : List ℕ) → ((j : ℕ) → (label w j ≡ 0 → ⊥) → j < m) → b < m
-      → Around p w t f b ks → f < m
-  around-drawn m t f b [] drawn h a = let e : f ≡ b = a .1 in omega arith
-  around-drawn m t f b (k ∷ ks) drawn h a = by-frame (λ g. g < m) t f (λ q. drawn f (a .0 q .1))
-      (around-drawn m k (behind p w t f) b ks drawn h (a .2))
 
   -- a call, or a choice, at a reference that is labelled leads to what the plan has nothing around
   module _ (n t f u b : ℕ) (is-term : term w n ≡ t) (is-frame : frame w n ≡ f) (marked : label w n ≡ 0 → ⊥)
@@ -236,11 +225,6 @@ unfoldable pub wrapped : Process → List Awaiting → Process
 wrapped P [] = P
 wrapped P (q ∷ qs) = wrapped (sequence (q .place) true P (q .right)) qs
 
-pub wrapped-held : (j n : ℕ) (P : Process) (qs : List Awaiting) → held j n (wrapped P qs) ≡ held j n P
-unfolding wrapped held
-wrapped-held j n P [] = refl
-wrapped-held j n P (q ∷ qs) = wrapped-held j n (sequence (q .place) true P (q .right)) qs
-
 pub wrapped-cells : (P : Process) (qs : List Awaiting) → cells (wrapped P qs) ≡ length qs + cells P
 unfolding wrapped cells
 wrapped-cells P [] = omega arith
@@ -263,13 +247,3 @@ module _ (l : Layout) (p x w : List ℕ) where
   wrapped-holds n b P (k ∷ ks) [] outer t h = absurd t
   wrapped-holds n b P (k ∷ ks) (q ∷ qs) outer t h =
       wrapped-holds n b (sequence (q .place) true P (q .right)) ks qs outer (t .1) (k, t .0, h)
-
-  pub held-sequences : (n b : ℕ) (P : Process) (qs : List Awaiting) (outer : List ℕ)
-      → Holds l p x w n b (wrapped P qs) outer
-      → (ks : List ℕ) × Tells ks qs × Holds l p x w n b P (ks ++ outer)
-  unfolding wrapped
-  held-sequences n b P [] outer h = ([], tt, h)
-  held-sequences n b P (q ∷ qs) outer h =
-      let r = held-sequences n b (sequence (q .place) true P (q .right)) qs outer h in
-      let s = r .2 in
-      (s .0 ∷ r .0, (s .1, r .1), s .2)

@@ -28,9 +28,6 @@ use Rattle.control.proofs.NodeLaws.{put-other}
 abbrev pub Same : List ℕ → List ℕ → ℕ → Type 0
 Same w w′ j = (i : ℕ) → i < 8 → node i w′ j ≡ node i w j
 
-pub same-then : (w w′ w″ : List ℕ) (j : ℕ) → Same w w′ j → Same w′ w″ j → Same w w″ j
-same-then w w′ w″ j s s′ i h = s′ i h ∙ s i h
-
 -- what lasts of a labelled reference
 pub record Lasts (w w′ : List ℕ) (j : ℕ) : Type 0 where
   pub label-lasts : label w′ j ≡ label w j
@@ -113,10 +110,6 @@ pub untouched-held : (l : Layout) (p x w : List ℕ) (i o : ℕ) (P : Process) �
     → (j n : ℕ) → held j n P ≡ one j n
 untouched-held l p x w i o P u j n =
     subst (λ R. held j n R ≡ one j n) (sym (u .is)) (term-held j n (l .place i) (u .tree))
-
--- a reference that a process holds is not one that it does not
-pub held-not-free : (j n m : ℕ) (P : Process) → held n m P ≡ 0 → 1 ≤ held j m P → j ≡ n → ⊥
-held-not-free j n m P free h e = omega (arith, free, h, ap (λ i. held i m P) e)
 
 -- what a plan tells does not go by the words
 module _ (l : Layout) (p x w w′ : List ℕ) where

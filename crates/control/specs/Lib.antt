@@ -1,2 +1,2 @@
--- The words of a run, and how they hold a control.
+-- The words of a run. Below: `words`, layouts of words and invariants.
 pub mod words

@@ -1,2 +1,2 @@
--- Definitions of counting.
+-- The counters of a run, and its rooms. Below: `code`, mirrors of code.
 pub mod code

@@ -22,7 +22,8 @@ use Rattle.rules.specs.Run.{answered, answer, Reached, begun, goes-on}
 use Rattle.graphs.specs.Graph.{graph-of}
 use Rattle.graphs.specs.Saved.{saved}
 use Rattle.exchange.specs.Opposite.{Opposite, left-and-right}
-use Rattle.exchange.proofs.Exchange.{BothOrders, exchange}
+use Rattle.exchange.specs.Orders.{BothOrders}
+use Rattle.exchange.proofs.Exchange.{exchange}
 
 -- the state behind some addresses, none where one of them is refused
 unfoldable pub played : List Term → State → List Address → Option State

@@ -25,16 +25,13 @@ use Rattle.runs.proofs.Tabled.{checked-table}
 use Rattle.runs.specs.declared.Answer.{Answer}
 use Rattle.runs.specs.declared.Answer.the-variants.{Accepted, Refused}
 use Rattle.runs.specs.declared.Shown.{Shown}
-use Rattle.graphs.specs.Graph.{graph-of}
-use Rattle.graphs.specs.Saved.{saved}
-use Rattle.exchange.specs.Renamed.{renamed}
 use Rattle.exchange.specs.Opposite.{Opposite}
-use Rattle.exchange.proofs.Exchange.{BothOrders, exchange}
-use Rattle.writing.specs.declared.Saved.{Saved}
+use Rattle.exchange.specs.Orders.{BothOrders}
+use Rattle.exchange.proofs.Exchange.{exchange}
 use Rattle.saving.specs.words.Kept.{Table-of}
-use Rattle.demands.specs.words.Words.{Words, Planned, HoldsRun, Steps, SavesWords}
-use Rattle.demands.specs.words.Bytes.{bytes-of}
+use Rattle.demands.specs.words.Words.{Words, Planned, HoldsRun, Steps}
 use Rattle.demands.proofs.SavedBytes.{save-leaves}
+use Rattle.demands.specs.words.Behind.{SameBehind, BothRefused}
 
 -- an accepted answer is document 01's acceptance
 accepted-told : (o : Run.Answer) (e : Shown) → told o ≡ Accepted e → (f : Event) × (s : State) × (o ≡ accepted f s)
@@ -58,29 +55,6 @@ room-numbers s =
     go false false true d h = (omega arith, omega arith)
     go false false false true h = (omega arith, omega arith)
     go false false false false h = absurd (h refl)
-
--- words that hold what both orders come to: the states behind a and then b, and behind b and then a, are the same
--- process apart from reference numbers, which are renamed one to one, and their saves leave the same bytes
-pub record SameBehind (ks os xs rs p x : List ℕ) (t : Sofar) (v v′ : Words) : Type 0 where
-  pub first-then : State
-  pub second-then : State
-  pub held : HoldsRun p x t v first-then
-  pub held′ : HoldsRun p x t v′ second-then
-  pub φ : ℕ → ℕ
-  pub ψ : ℕ → ℕ
-  pub back : (n : ℕ) → ψ (φ n) ≡ n
-  pub forth : (n : ℕ) → φ (ψ n) ≡ n
-  pub process : second-then .process ≡ renamed φ (first-then .process)
-  pub reference : second-then .reference ≡ φ (first-then .reference)
-  pub same-length : length (saved (graph-of first-then)) ≡ length (saved (graph-of second-then))
-  pub same-bytes : (slice after slice′ after′ : List ℕ) (r r′ : Saved)
-      → SavesWords ks os xs rs v slice r after → SavesWords ks os xs rs v′ slice′ r′ after′
-      → length (saved (graph-of first-then)) ≤ length slice → length (saved (graph-of first-then)) ≤ length slice′
-      → bytes-of r after ≡ bytes-of r′ after′
-
--- both orders meet a room limit, the same
-abbrev pub BothRefused : Answer → Answer → Type 0
-BothRefused r r′ = (n : ℕ) × (8 ≤ n) × (n ≤ 11) × (r ≡ Refused n) × (r′ ≡ Refused n)
 
 -- runs of one table, in the columns that its check left and by the plan that is laid out from them
 module _ {text ks os xs rs p x : List ℕ} {t : Sofar} (table : Table-of text ks os xs rs t)

@@ -16,7 +16,8 @@ use Rattle.terms.proofs.Trees.{each-at, checked-trees}
 use Rattle.rules.specs.Run.{State}
 use Rattle.graphs.specs.Graph.{graph-of}
 use Rattle.graphs.specs.Saved.{saved}
-use Rattle.graphs.proofs.Exactly.{Renumbering, saved-equal-exactly}
+use Rattle.graphs.specs.Renumbering.{Renumbering}
+use Rattle.graphs.proofs.Exactly.{saved-equal-exactly}
 use Rattle.writing.specs.words.Slice.{answer, left}
 use Rattle.writing.specs.declared.Saved.{Saved}
 use Rattle.writing.specs.declared.Saved.the-variants.{Short}

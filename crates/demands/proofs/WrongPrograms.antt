@@ -6,13 +6,11 @@
 use Prim.Native.Nat.{ℕ, _<_}
 use mathlib.Core.Path.{_≡_, sym, ap, _∙_}
 use mathlib.Core.List.{List}
-use mathlib.Core.Option.{some}
 use native.Mathlib.Omega.{arith}
 use Rattle.tables.specs.Table.{Sofar}
 use Rattle.terms.specs.Term.{Term, definitions-of}
 use Rattle.rules.specs.declared.Event.{Event}
-use Rattle.rules.specs.Process.{Address}
-use Rattle.rules.specs.Run.{State, answer}
+use Rattle.rules.specs.Run.{State}
 use Rattle.rules.specs.Run as Run
 use Rattle.rules.proofs.Drawing.{accepted-draws}
 use Rattle.plans.specs.words.Layout.{layout}
@@ -22,28 +20,14 @@ use Rattle.runs.specs.declared.Answer.{Answer}
 use Rattle.runs.specs.declared.Answer.the-variants.{Accepted, Refused}
 use Rattle.runs.specs.declared.Shown.{Shown}
 use Rattle.runs.proofs.Once.{held-once}
-use Rattle.demands.specs.words.Words.{Words, HoldsRun, Steps}
-
--- states that accepted steps lead to from a state, one or more
-pub data Ahead (ts : List Term) (s : State) : State → Type 0 where
-  next : {t : State} (a : Address) (e : Event) → answer ts s a ≡ Run.accepted e t → Ahead ts s t
-  further : {t u : State} (a : Address) (e : Event) → Ahead ts s t → answer ts t a ≡ Run.accepted e u → Ahead ts s u
+use Rattle.demands.specs.words.Words.{Words, HoldsRun}
+use Rattle.demands.specs.Ahead.{Ahead, next, further}
+use Rattle.demands.specs.words.Accepts.{Accepts}
 
 ahead-draws : (ts : List Term) (s : State) {t : State} → Ahead ts s t → s .fresh < t .fresh
 ahead-draws ts s (next {t = t} a e h) = accepted-draws ts s t a e h
 ahead-draws ts s (further {t = t} {u = u} a e k h) =
     omega (arith, ahead-draws ts s k, accepted-draws ts t u a e h)
-
--- a step by an address that document 01 accepts, from words that hold a run, with an outcome that the step's promise allows
-pub record Accepts (p x : List ℕ) (t : Sofar) (v : Words) (r : Answer) (v′ : Words) (s : State) (e : Event) (s′ : State)
-    : Type 0 where
-  pub digits : List ℕ
-  pub count : ℕ
-  pub address : Address
-  pub held : HoldsRun p x t v s
-  pub promised : Steps p x digits count v r v′
-  pub named : addressed digits count ≡ some address
-  pub accepts : answer (definitions-of t) s address ≡ Run.accepted e s′
 
 -- runs of one table, by a plan that holds its definitions
 module _ {p x : List ℕ} {t : Sofar} (table : Table (layout t) p x (definitions-of t)) where

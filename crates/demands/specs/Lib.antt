@@ -1,2 +1,4 @@
--- `Words` is what the doors promise of a run's words, and `Bytes` what a save has left in a slice.
+-- The customer's demands through the doors. Meaning: `Ahead`, states further on in a run. Below: `words`, layouts of
+-- words and invariants.
+pub mod Ahead
 pub mod words

@@ -1,2 +1,2 @@
--- Definitions of drawing.
+-- What a step writes. Below: `code`, mirrors of code.
 pub mod code

@@ -1,2 +1,2 @@
--- Mirrors of code: what functions compute whatever they are handed.
+-- Mirrors of code: `Drawing`, labels, arcs, references, event nodes and meetings.
 pub mod Drawing

@@ -1,6 +1,5 @@
 -- Lists in two orders: the one is the other, mapped, with two parts exchanged. So are a list that is mapped
 -- where it comes second and the other so; and such lists have one length. Assumes nothing.
-use Prim.Native.Nat.{_+_}
 use mathlib.Core.Path.{_≡_, refl, sym, ap, ap₂, _∙_}
 use mathlib.Core.List.{List, [], _∷_, _++_, map, map-append, append-assoc}
 use native.Mathlib.Omega.{arith}

@@ -1,3 +1,5 @@
--- The exchange of two steps: `Opposite` tells which two may be exchanged, and `Renamed` a process with other reference numbers.
+-- Two steps exchanged. Meaning: `Renamed`, a process with other reference numbers; `Opposite`, which two steps may be
+-- exchanged; `Orders`, what comes of both orders.
 pub mod Renamed
 pub mod Opposite
+pub mod Orders

@@ -1,3 +1,3 @@
--- Definitions of filling.
+-- A table's columns filled. Below: `words`, layouts of words and invariants; `code`, mirrors of code.
 pub mod words
 pub mod code

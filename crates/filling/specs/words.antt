@@ -1,2 +1,2 @@
--- Layouts of words and invariants.
+-- Layouts of words and invariants: `Preorder`, the column `after`.
 pub mod Preorder

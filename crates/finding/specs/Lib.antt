@@ -1,3 +1,3 @@
--- Definitions of finding.
+-- The mark of a node by its line. Below: `words`, layouts of words and invariants; `code`, mirrors of code.
 pub mod words
 pub mod code

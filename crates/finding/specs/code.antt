@@ -1,2 +1,2 @@
--- Mirrors of code: what functions compute whatever they are handed.
+-- Mirrors of code: `Found`, the mark at a place, whatever the columns hold.
 pub mod Found

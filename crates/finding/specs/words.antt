@@ -1,2 +1,2 @@
--- Layouts of words and invariants.
+-- Layouts of words and invariants: `Node`, what a node's bytes say.
 pub mod Node

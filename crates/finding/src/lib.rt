@@ -5,8 +5,6 @@ use columns::Roots;
 use columns::after_of;
 use columns::kind_of;
 use columns::root_of;
-use columns::wide;
-use frames::DEFINITION_ROOM;
 use frames::TERM_ROOM;
 use kinds::subterms;
 use numbers::byte;

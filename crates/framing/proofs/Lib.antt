@@ -1,2 +1,2 @@
--- Laws of framing.
+-- Laws of this crate: `Spelt`, of the lines that are put.
 pub mod Spelt

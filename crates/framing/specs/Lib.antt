@@ -1,3 +1,3 @@
--- Definitions of framing.
+-- Lines of a saved track. Below: `words`, layouts of words and invariants; `code`, mirrors of code.
 pub mod words
 pub mod code

@@ -1,2 +1,2 @@
--- Mirrors of code: what functions compute whatever they are handed.
+-- Mirrors of code: `Placed`, what an answer of `places::place` tells.
 pub mod Placed

@@ -1,2 +1,2 @@
--- Layouts of words and invariants.
+-- Layouts of words and invariants: `Told`, the graph that columns tell.
 pub mod Told

@@ -6,7 +6,7 @@
 use Prim.Native.Nat.{ℕ, suc, _≤_, _<_}
 use mathlib.Core.Path.{_≡_, refl, sym, ap, _∙_}
 use mathlib.Core.Bool.{Bool, true, false, _&&_, _||_, not, or-comm}
-use mathlib.Core.List.{List, [], _∷_, map}
+use mathlib.Core.List.{List, [], _∷_}
 use mathlib.Core.Option.{Option, none, some}
 use native.Mathlib.Omega.{arith}
 use native.Mathlib.Nat.{zero-add}
@@ -20,7 +20,7 @@ use Rattle.places.specs.Place.{Place}
 use Rattle.rules.specs.Track.{Pair, lookup, Label}
 use Rattle.rules.proofs.Marked.{one, tally}
 use Rattle.rules.proofs.Weighed.{sum, sum-none}
-use Rattle.graphs.specs.Graph.{joins, meets, Graph, labelled, keep, targets, side, next, present, heads}
+use Rattle.graphs.specs.Graph.{joins, meets, Graph, labelled, keep, targets, side, present, heads}
 use Rattle.graphs.specs.Walk.{among, walk, order}
 use Rattle.graphs.specs.Saved.{placed, numbered, canonical}
 use Rattle.graphs.specs.Parsed.{ends-below}
@@ -38,8 +38,7 @@ use Rattle.graphs.proofs.Rows.{reference-at, reference-below, reference
 use Rattle.graphs.proofs.Rows.{rows-up-joins, rows-inside, rows-ascend, rows-up-ascend, rows-below}
 use Rattle.graphs.proofs.Rows.{rows-up-below, rows-up-upward, rows-again, rows-up-again, rows-few}
 use Rattle.graphs.proofs.Rows.{rows-up-few}
-use Rattle.graphs.proofs.Renaming.{Narrow, among-ways, way-parts, Carries, side-carried, next-carried}
-use Rattle.graphs.proofs.Renaming.{order-carried}
+use Rattle.graphs.proofs.Renaming.{Narrow, among-ways, way-parts, Carries, side-carried, order-carried}
 
 -- the place of a reference, where there is one
 unfoldable pub place-of : List Label → Option ℕ → Option Place
@@ -306,11 +305,6 @@ module _ (g : Graph) where
           (few (reference-of k) .1),
     )
 
-    -- where the walk goes on from a number
-    pub canonical-next : (k : ℕ) → k < count
-        → next g (reference-of k) ≡ map reference-of (next (canonical g) k)
-    canonical-next = next-carried _ reference-of (canonical g) g canonical-carries canonical-narrow few
-
     -- its order is its numbers in order
     pub canonical-order : order (canonical g) ≡ from-on 0 count
     canonical-order =
@@ -360,12 +354,6 @@ canonical-again g nodes walk arcs meetings up arc-ends meeting-ends =
     let joined = rows-again n (g .arcs) arcs arc-ends in
     let met = rows-up-again n (g .meetings) meetings up meeting-ends in
     rw (is, labels, joined, met)
-
--- so is a canonical graph
-pub canonical-twice : (g : Graph) → Narrow g → canonical (canonical g) ≡ canonical g
-canonical-twice g few =
-    canonical-again (canonical g) (canonical-in-order g) (canonical-walked g few) (canonical-arcs-ascend g)
-    (canonical-meetings-ascend g) (canonical-upward g) (canonical-arcs-below g) (canonical-meetings-below g)
 
 -- and a graph of the reader's shape
 pub shaped-canonical : (ts : List Term) (g : Graph) → shaped ts g ≡ true

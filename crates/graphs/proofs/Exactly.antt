@@ -9,19 +9,15 @@ use mathlib.Core.Logic.{_↔_}
 use lib.ListN.{length, getElem?}
 use Rattle.terms.specs.Term.{Term, Shallow}
 use Rattle.rules.specs.Run.{State, Reached}
-use Rattle.graphs.specs.Graph.{Graph, graph-of}
+use Rattle.graphs.specs.Graph.{graph-of}
 use Rattle.graphs.specs.Saved.{canonical, graph-text, saved}
 use Rattle.graphs.proofs.Canonical.{reference-of, number-of}
-use Rattle.graphs.proofs.Renumbered.{Renumbers, renumbered-canonical, renumbers-back, renumbers-then}
+use Rattle.graphs.specs.Renumbering.{Renumbers, Renumbering}
+use Rattle.graphs.proofs.Renumbered.{renumbered-canonical, renumbers-back, renumbers-then}
 use Rattle.graphs.proofs.Tracked.{run-narrow}
 use Rattle.graphs.proofs.Spelled.{text-one}
 use Rattle.graphs.proofs.Accepted.{run-fits}
 use Rattle.graphs.proofs.Kept.{saved-tells}
-
--- a one-to-one map between the labelled references of two graphs that fixes the start node and carries the
--- places, arcs and meetings of the one onto those of the other
-abbrev pub Renumbering : Graph → Graph → Type 0
-Renumbering g h = (φ : ℕ → ℕ) × (ψ : ℕ → ℕ) × Renumbers φ ψ g h
 
 -- "Two runs of one table save equal bytes exactly when a renumbering that fixes the start node carries the saved
 -- nodes, places, arcs and meetings of one onto the other"

@@ -26,12 +26,13 @@ use Rattle.graphs.proofs.Ordered.{order-distinct, order-labelled, run-r
 use Rattle.graphs.proofs.Pairs.{agree, refuted}
 use Rattle.graphs.proofs.Canonical.{reference-of, number-of, canonical-length, canonical-labelled}
 use Rattle.graphs.proofs.Canonical.{shaped-canonical}
-use Rattle.graphs.proofs.Renumbered.{Renumbers, canonical-renumbers}
+use Rattle.graphs.specs.Renumbering.{Renumbers}
+use Rattle.graphs.proofs.Renumbered.{canonical-renumbers}
 use Rattle.graphs.proofs.Tracked.{run-meetings}
 use Rattle.graphs.proofs.Spelled.{text-says, says-text}
 use Rattle.graphs.proofs.Accepted.{each-every, run-shaped, run-fits}
 use Rattle.graphs.proofs.Refusals.{parsed-refused, judged-refused}
-pub use Rattle.graphs.proofs.Refusals.{Refusal, no-line, out-of-place, out-of-range, misshapen}
+use Rattle.graphs.specs.Refusal.{Refusal}
 
 -- a text that is read says a graph of the reader's shape
 pub read-parts : (ts : List Term) (r : Parsed) (g : Graph) → judged ts r ≡ says g

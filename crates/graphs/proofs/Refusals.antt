@@ -20,13 +20,7 @@ use Rattle.graphs.specs.Parsed.{in-range, Due, a-node, an-arc, a-meeting
 use Rattle.graphs.specs.Parsed.{first-refusal, Parsed, says, refused, verdict, heard, taken, nothing}
 use Rattle.graphs.specs.Parsed.{rest, behind, from-first}
 use Rattle.graphs.specs.Shape.{shaped, judged}
-
--- no line, a frame out of place, a number out of range, each with its line; or the shape, with line 0
-pub data Refusal (n k : ℕ) : Type 0 where
-  no-line : n ≡ 1 → 1 ≤ k → Refusal n k
-  out-of-place : n ≡ 2 → 1 ≤ k → Refusal n k
-  out-of-range : n ≡ 3 → 1 ≤ k → Refusal n k
-  misshapen : n ≡ 13 → k ≡ 0 → Refusal n k
+use Rattle.graphs.specs.Refusal.{Refusal, no-line, out-of-place, out-of-range, misshapen}
 
 -- a number that a line meets, and the line's
 abbrev OfLine : ℕ → ℕ → Type 0

@@ -21,19 +21,7 @@ use Rattle.graphs.proofs.Pairs.{agree}
 use Rattle.graphs.proofs.Renaming.{Narrow, Carries, order-carried}
 use Rattle.graphs.proofs.Canonical.{reference-of, number-of, canonical-labelled, canonical-meetings}
 use Rattle.graphs.proofs.Canonical.{canonical-carries, meets-at}
-
--- two maps, inverse to each other on labelled references, that carry places, arcs, meetings and reference 0
-pub record Renumbers (φ ψ : ℕ → ℕ) (g h : Graph) : Type 0 where
-  pub back : (n : ℕ) → labelled g n ≡ true → ψ (φ n) ≡ n
-  pub forth : (m : ℕ) → labelled h m ≡ true → φ (ψ m) ≡ m
-  pub places : (n : ℕ) → labelled g n ≡ true → lookup (φ n) (h .labels) ≡ lookup n (g .labels)
-  pub places-back : (m : ℕ) → labelled h m ≡ true → lookup (ψ m) (g .labels) ≡ lookup m (h .labels)
-  pub arcs : (n m : ℕ) → labelled g n ≡ true → labelled g m ≡ true
-      → joins (h .arcs) (φ n) (φ m) ≡ joins (g .arcs) n m
-  pub meetings : (n m : ℕ) → labelled g n ≡ true → labelled g m ≡ true
-      → meets (h .meetings) (φ n) (φ m) ≡ meets (g .meetings) n m
-  pub first : labelled g 0 ≡ true → φ 0 ≡ 0
-  pub first-back : labelled h 0 ≡ true → ψ 0 ≡ 0
+use Rattle.graphs.specs.Renumbering.{Renumbers}
 
 -- what is listed of mapped references of a domain is what is listed of them
 module _ (D : ℕ → Type 0) (φ : ℕ → ℕ) where

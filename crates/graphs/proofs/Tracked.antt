@@ -15,7 +15,7 @@ use Rattle.lines.specs.Line.{no-bytes, byte-first}
 use Rattle.terms.specs.Term.{Term, Shallow}
 use Rattle.places.specs.Place.{Place, under}
 use Rattle.rules.specs.Track.{lookup}
-use Rattle.rules.specs.Run.{State, start, Reached, node-room, arc-room, meeting-room}
+use Rattle.rules.specs.Run.{State, Reached, node-room, arc-room, meeting-room}
 use Rattle.rules.proofs.Drawn.{reached-kept, rooms-hold, fresh-room}
 use Rattle.rules.proofs.Marked.{labelled-once}
 use Rattle.rules.proofs.Meetings.{times, meetings-apart, meetings-of-one-event, EventNode}
@@ -31,7 +31,7 @@ use Rattle.graphs.specs.Shape.{same, placed, every, branches, event-of, 
 use Rattle.graphs.proofs.Ordered.{counted-label}
 use Rattle.graphs.proofs.Renaming.{NarrowAt, Narrow}
 use Rattle.graphs.proofs.Literals.{splits-or-not, event-at, Ranged, ranged, literal-ranged}
-use Rattle.graphs.proofs.Labels.{first-label, There, Placing, reached-opened, Opened, label-places}
+use Rattle.graphs.proofs.Labels.{first-label, Placing, label-places}
 use Rattle.graphs.proofs.Counted.{lookup-labelled, labelled-lookup, joins-times, keep-most, keep-all}
 use Rattle.graphs.proofs.Counted.{heads-out, every-head, few-heads}
 
@@ -58,33 +58,12 @@ module _ (ts : List Term) {s : State} (p : Reached ts s) where
   pub placing : (n : ℕ) (w : Place) → lookup n (s .labels) ≡ some w → Placing ts n w
   placing n w e = label-places ts p (lookup-labelled (s .labels) e)
 
-  -- reference 0 has the place of definition 00's left-hand side
-  pub first-place : (w : Place) → lookup 0 (s .labels) ≡ some w → w ≡ first-label .place
-  first-place w e = ⊎-elim (λ i. ap (λ l. l .place) i) (λ h. absurd (h .0 refl)) (placing 0 w e)
-
-  -- any other has a literal's
-  pub other-place : (n : ℕ) (w : Place) → lookup n (s .labels) ≡ some w → (n ≡ 0 → ⊥) → There ts w
-  other-place n w e other =
-      ⊎-elim (λ i. absurd (other (ap (λ l. l .reference) i))) (λ h. h .1) (placing n w e)
-
   -- every label is placed as the reader wants it
   pub labels-placed : (n : ℕ) (w : Place) → lookup n (s .labels) ≡ some w
       → placed ts (record { reference = n; place = w }) ≡ true
   unfolding placed same
   labels-placed n w e =
       ⊎-elim (λ i. ap (placed ts) i) (λ h. rw (ne-eqb n 0 (h .0)) (h .1)) (placing n w e)
-
-  -- 0 is labelled if any reference is
-  pub first-labelled : (n : ℕ) (w : Place) → lookup n (s .labels) ≡ some w
-      → lookup 0 (s .labels) ≡ some (first-label .place)
-  unfolding lookup
-  first-labelled n w e = go (reached-opened ts p)
-    where
-      go : (s ≡ start) ⊎ Opened ts s → lookup 0 (s .labels) ≡ some (first-label .place)
-      go (inl i) =
-          let nothing = sym e ∙ ap (λ s. lookup n (s .labels)) i in
-          let z : _≡_ {A = ℕ} 0 1 = cc in absurd (omega arith)
-      go (inr k) = ap (lookup 0) (k .all)
 
   -- a node that has no label leads nowhere
   unlabelled-ends : (n : ℕ) (t : ℕ → Bool) → lookup n (s .labels) ≡ none → length (keep t (targets g n)) ≤ 0

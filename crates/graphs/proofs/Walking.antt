@@ -9,7 +9,7 @@ use mathlib.Core.Bool.{Bool, true, false, _||_, or-assoc}
 use mathlib.Core.List.{List, [], _∷_, _++_, map, map-append, map-id, append-assoc, append-nil}
 use mathlib.Core.Logic.{_⊎_, inl, inr, ⊎-elim}
 use native.Mathlib.Omega.{arith}
-use native.Mathlib.Nat.{zero-mul, suc-mul, mul-le-mul-right}
+use native.Mathlib.Nat.{zero-mul, suc-mul}
 use lib.ListN.{length, length-append}
 use lib.Dec.{eqb}
 use borrow.Author.Tests.{eqb-true, eqb-false, eq-eqb, ne-eqb, lt-ltb, le-ltb}
@@ -154,10 +154,6 @@ module _ (on : ℕ → List ℕ) where
             (h .0 ++ (n ∷ []), ap (λ l. l ++ (n ∷ [])) (h .1) ∙ append-assoc s (h .0) (n ∷ []));
       })
       f p s ([], sym (append-nil s)) .1
-
-  -- and keeps its numbers
-  pub walk-keeps : (f : ℕ) (p s : List ℕ) (n : ℕ) → among n s ≡ true → among n (walk f on p s) ≡ true
-  walk-keeps f p s n h = let (r, e) = walk-extends f p s in rw e (among-before n s r h)
 
   -- the walk stays in a domain that the ways on do not leave
   pub walk-within : (D : ℕ → Type 0) → Closed D on → (f : ℕ) (p s : List ℕ) → Within D p → Within D s
@@ -360,17 +356,6 @@ distinct-below b xs d h =
       sum-past b xs d,
     )
 
--- nor do they weigh more than that many times the largest weight
-sum-below : (w : ℕ → ℕ) (k b : ℕ) (xs : List ℕ) → Distinct xs → Within (λ n. n < b) xs
-    → Within (λ n. w n ≤ k) xs → sum w xs ≤ b * k
-sum-below w k b xs d h most =
-    omega (
-      arith,
-      sum-least w (λ n. k) xs most,
-      sum-each k xs,
-      mul-le-mul-right k (distinct-below b xs d h),
-    )
-
 -- a walk ends where no distinct references have more than c ways on: the turns that are left, and the ways on
 -- from what is numbered, suffice for what is pending and for c more
 pub ends-by-load : (on : ℕ → List ℕ) (D : ℕ → Type 0) → Closed D on → (c : ℕ)
@@ -394,12 +379,3 @@ ends-by-load on D closed c most (suc f) (n ∷ p) s h k d l =
         further (on n ++ p) (s ++ (n ∷ [])) (within-append D (on n) p (closed n here) (within-rest D n p h))
         (within-append D s (n ∷ []) k (within-one D n here)) (distinct-more n s e d)
         (omega (arith, length-append (on n) p, sum-append (λ n. length (on n)) s (n ∷ [])))
-
--- so it does where all references are below b, with at most k ways on each
-pub ends-below : (on : ℕ → List ℕ) (b k : ℕ) → Closed (λ n. n < b) on → ((n : ℕ) → n < b → length (on n) ≤ k)
-    → (f : ℕ) (p : List ℕ) → Within (λ n. n < b) p → length p + b * k ≤ f → Ends on f p []
-unfolding sum
-ends-below on b k closed few f p h l =
-    ends-by-load on (λ n. n < b) closed (b * k)
-    (λ xs d i. sum-below (λ n. length (on n)) k b xs d i (λ n j. few n (i n j)))
-    f p [] h (within-none (λ n. n < b)) tt (omega arith)

@@ -1,7 +1,7 @@
 -- Document 01, 'The program's listing': the table's text runs through the first line that starts `1f`, or to the
 -- end of the input; what stands behind it is the script.
 use Prim.Native.Nat.{ℕ, _+_}
-use mathlib.Core.Bool.{Bool, true, false}
+use mathlib.Core.Bool.{Bool, false}
 use mathlib.Core.List.{List, [], _∷_}
 use lib.ListN.{length, take, drop}
 use lib.Dec.{eqb}

@@ -1,4 +1,3 @@
--- A program's input: `Cut` is where its table's text ends and its script begins, and `Code` what the
--- functions compute whatever they are handed.
+-- A program's input. Meaning: `Cut`, where a table's text ends and the script begins. Below: `code`, mirrors of code.
 pub mod Cut
 pub mod code

@@ -1,2 +1,2 @@
--- Laws of kinds.
+-- Laws of this crate: `KindLaws`, of the largest payload and the most subterms.
 pub mod KindLaws

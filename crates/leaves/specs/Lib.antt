@@ -1,2 +1,2 @@
--- Definitions of leaves.
+-- The steps that look no further down. Below: `code`, mirrors of code.
 pub mod code

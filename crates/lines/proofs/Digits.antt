@@ -178,14 +178,19 @@ frame-broken l ds x ys e h = go (frame l) refl
         let i = digits-inside ds x ys (rw e at (framed-digits l bs q)) in
         absurd (omega arith)
 
+-- two digits make a byte
+pair-even : (h l : ℕ) (bs : List ℕ) → h < 16 → l < 16 → pair h l (some bs) ≡ some ((h * 16 + l) ∷ bs)
+unfolding pair
+pair-even h l bs p q = simp (lt-ltb h 16 p, lt-ltb l 16 q)
+
 -- an even run is bytes, an odd one is none
 pub bytes-even : (ds : List ℕ) → Digits ds → length ds % 2 ≡ 0 → (bs : List ℕ) × (bytes ds ≡ some bs)
-unfolding bytes pair
+unfolding bytes
 bytes-even [] no-more e = ([], refl)
 bytes-even (h ∷ []) (one-more p no-more) e = let z : _≡_ {A = ℕ} 0 1 = omega arith in absurd (omega arith)
 bytes-even (h ∷ l ∷ cs) (one-more p (one-more q t)) e =
     let r = bytes-even cs t (omega arith) in
-    ((digit h * 16 + digit l) ∷ r .0, simp (r .1, lt-ltb _ 16 p, lt-ltb _ 16 q))
+    ((digit h * 16 + digit l) ∷ r .0, rw (r .1) (pair-even (digit h) (digit l) (r .0) p q))
 
 pub bytes-odd : (ds : List ℕ) → (length ds % 2 ≡ 0 → ⊥) → bytes ds ≡ none
 unfolding bytes pair

@@ -1,4 +1,3 @@
--- What a text of lines says: `Line` is document 01's account, and `Code` what the functions
--- compute whatever they are handed.
+-- Lines of hexadecimal. Meaning: `Line`, what a text of lines says. Below: `code`, mirrors of code.
 pub mod Line
 pub mod code

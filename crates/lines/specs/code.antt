@@ -1,2 +1,2 @@
--- Mirrors of code: what functions compute whatever they are handed.
+-- Mirrors of code: `Characters`, runs of digits and parts of a text.
 pub mod Characters

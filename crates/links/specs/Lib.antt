@@ -1,3 +1,4 @@
--- Definitions of links.
+-- A graph in columns, its arcs linked to sides. Below: `words`, layouts of words and invariants; `code`, mirrors of
+-- code.
 pub mod words
 pub mod code

@@ -1,2 +1,2 @@
--- Mirrors of code: what functions compute whatever they are handed.
+-- Mirrors of code: `Linked`, where arcs lead, by the marks of their ends.
 pub mod Linked

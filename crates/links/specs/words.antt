@@ -1,2 +1,2 @@
--- Layouts of words and invariants.
+-- Layouts of words and invariants: `Columns`, the words of a graph in columns.
 pub mod Columns

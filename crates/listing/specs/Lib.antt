@@ -1,3 +1,4 @@
--- The tracking program's listing: `Listing` is document 01's account, and `Code` what the functions below the door come to.
+-- The tracking program's listing. Meaning: `Listing`, document 01's account, from bytes to bytes. Below: `code`,
+-- mirrors of code.
 pub mod Listing
 pub mod code

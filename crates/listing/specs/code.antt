@@ -1,2 +1,2 @@
--- Mirrors of code: what functions compute whatever they are handed.
+-- Mirrors of code: `Told`, what the functions below the door come to.
 pub mod Told

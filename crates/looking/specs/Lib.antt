@@ -1,2 +1,2 @@
--- Definitions of looking.
+-- What a step looks up on its way. Below: `code`, mirrors of code.
 pub mod code

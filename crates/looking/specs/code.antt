@@ -1,2 +1,2 @@
--- Mirrors of code: what functions compute whatever they are handed.
+-- Mirrors of code: `Looking`, what is looked up, whatever the words hold.
 pub mod Looking

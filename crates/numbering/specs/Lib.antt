@@ -1,3 +1,2 @@
--- `Numbered` is a graph in columns, whatever they hold, by the numbers of the walk; `Keyed` is what its pairs
--- are sorted by.
+-- A graph in columns by its numbers. Below: `code`, mirrors of code.
 pub mod code

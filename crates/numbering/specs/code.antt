@@ -1,2 +1,2 @@
--- Mirrors of code: what functions compute whatever they are handed.
+-- Mirrors of code: `Numbered`, the graph by the numbers of the walk.
 pub mod Numbered

@@ -1,2 +1,2 @@
--- Definitions of numbers.
+-- What a line's characters stand for. Below: `code`, mirrors of code.
 pub mod code

@@ -1,2 +1,2 @@
--- Mirrors of code: what functions compute whatever they are handed.
+-- Mirrors of code: `Numbers`, bytes and numbers, whatever the characters are.
 pub mod Numbers

@@ -7,7 +7,6 @@ ghost use Rattle.numbers.specs.code.Numbers.{value, byteOf, byteAt, numb
 ghost use mathlib.Core.List.{List};
 ghost use mathlib.Core.Option.{some};
 ghost use Rattle.lines.specs.Line.{bytes};
-ghost use Rattle.numbers.specs.code.Numbers.{byteAt};
 ghost use Rattle.lines.specs.Line.{number-at};
 
 const LOW_56_BITS: u64 = 72057594037927936;

@@ -20,7 +20,7 @@ use Rattle.terms.specs.Term as Term
 use Rattle.places.specs.Place.{Place}
 use Rattle.columns.specs.words.Columns.{look}
 use Rattle.columns.proofs.Laws.{look-in}
-use Rattle.rules.specs.Process.{leaf, prefix, internal, sequence, below, joined, untouched}
+use Rattle.rules.specs.Process.{below, joined, untouched}
 use Rattle.rules.specs.Step.{at-Ω}
 use Rattle.rules.specs.Offers.{leaf-offers, offers-τ, offers-✓, offers-event}
 use Rattle.plans.specs.words.Plan.{Layout, word, kind, operand, second, Planned, first-around, second-around}

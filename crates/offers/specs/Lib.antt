@@ -1,4 +1,3 @@
--- What a run offers, and its status: `Code` is what the functions compute whatever words they are handed, and
--- `Told` what that is of a control.
+-- What a run offers, and its status. Below: `words`, layouts of words and invariants; `code`, mirrors of code.
 pub mod words
 pub mod code

@@ -1,2 +1,2 @@
--- Layouts of words and invariants.
+-- Layouts of words and invariants: `Told`, what the answers are of a control that the words hold.
 pub mod Told

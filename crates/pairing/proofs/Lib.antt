@@ -1,2 +1,2 @@
--- Laws of pairing.
+-- Laws of this crate: `Renumbering`, of pairs by the numbers of their ends.
 pub mod Renumbering

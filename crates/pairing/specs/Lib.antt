@@ -1,2 +1,2 @@
--- Definitions of pairing.
+-- Pairs by their numbers. Below: `code`, mirrors of code.
 pub mod code

@@ -1,2 +1,2 @@
--- Mirrors of code: what functions compute whatever they are handed.
+-- Mirrors of code: `Renumbered`, pairs whose ends have numbers.
 pub mod Renumbered

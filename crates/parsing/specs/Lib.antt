@@ -1,2 +1,2 @@
--- The lines of a saved track: `Found` is the mark at a place, and `Phases` what each part of the line reading comes to.
+-- A saved text's lines. Below: `code`, mirrors of code.
 pub mod code

@@ -1,2 +1,2 @@
--- Mirrors of code: what functions compute whatever they are handed.
+-- Mirrors of code: `Phases`, what each part of the line reading comes to.
 pub mod Phases

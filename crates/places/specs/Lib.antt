@@ -1,4 +1,3 @@
--- Places of literals: `Place` is document 01's account, and `Code` what the functions compute whatever
--- columns they are handed.
+-- Places of literals. Meaning: `Place`, document 01's account. Below: `code`, mirrors of code.
 pub mod Place
 pub mod code

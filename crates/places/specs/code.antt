@@ -1,2 +1,2 @@
--- Mirrors of code: what functions compute whatever they are handed.
+-- Mirrors of code: `Descent`, following terms downward, whatever the columns hold.
 pub mod Descent

@@ -11,7 +11,6 @@ ghost use mathlib.Core.Path.{_≡_};
 ghost use Prim.Native.Nat.{_-_, _≤_, _<_};
 ghost use lib.Seq.{sets};
 ghost use Rattle.places.specs.code.Descent as code;
-ghost use Rattle.columns.specs.words.Columns.{look};
 ghost use Rattle.places.specs.code.Descent.{descended, reached, digits};
 
 // Writes the digits from term `from`, which stands at a depth, down to term `to`, up to so many in all;

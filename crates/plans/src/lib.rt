@@ -5,6 +5,14 @@ mod laying;
 
 use columns::wide;
 use frames::TERM_ROOM;
+use kinds::CALL;
+use kinds::EXTERNAL;
+use kinds::INTERNAL;
+use kinds::PARALLEL;
+use kinds::PREFIX;
+use kinds::SEQUENCE;
+use kinds::SKIP;
+use kinds::STOP;
 pub use laying::lay_out;
 ghost use mathlib.Core.Path.{_≡_};
 ghost use Prim.Native.Nat.{_<_};
@@ -16,21 +24,21 @@ pub const PLAN_WORDS: usize = 4096;
 pub type Plan = [u16; PLAN_WORDS];
 
 // The kinds of terms, as a plan's words have them.
-pub const CALL_WORD: usize = 1;
+pub const CALL_WORD: usize = CALL as usize;
 
-pub const PREFIX_WORD: usize = 2;
+pub const PREFIX_WORD: usize = PREFIX as usize;
 
-pub const INTERNAL_WORD: usize = 3;
+pub const INTERNAL_WORD: usize = INTERNAL as usize;
 
-pub const EXTERNAL_WORD: usize = 4;
+pub const EXTERNAL_WORD: usize = EXTERNAL as usize;
 
-pub const SEQUENCE_WORD: usize = 5;
+pub const SEQUENCE_WORD: usize = SEQUENCE as usize;
 
-pub const PARALLEL_WORD: usize = 6;
+pub const PARALLEL_WORD: usize = PARALLEL as usize;
 
-pub const SKIP_WORD: usize = 7;
+pub const SKIP_WORD: usize = SKIP as usize;
 
-pub const STOP_WORD: usize = 8;
+pub const STOP_WORD: usize = STOP as usize;
 
 // A term's kind, 0 where there is no such term.
 pub fn kind_of(t: usize, plan: &Plan) -> usize

@@ -12,7 +12,7 @@ use Rattle.scripts.specs.Script as Script
 use Rattle.scripts.specs.declared.Step.{Step}
 use Rattle.scripts.specs.declared.Step.the-variants as Lines
 use Rattle.scripts.proofs.Step.{enum}
-use Rattle.runs.specs.code.Doors.{Stepped, stepped}
+use Rattle.runs.specs.code.Doors.{stepped}
 use Rattle.playing.specs.code.Playing.{Line-played, of-answer, without-step, unplayed, step-played}
 use Rattle.playing.specs.code.Playing.{by-line, played}
 use Rattle.runs.specs.declared.Answer.{Answer}

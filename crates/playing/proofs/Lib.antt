@@ -1,2 +1,2 @@
--- Laws of playing.
+-- Laws of this crate: `Laws`, of a script's line, by what its tests found.
 pub mod Laws

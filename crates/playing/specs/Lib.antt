@@ -1,2 +1,2 @@
--- Definitions of playing.
+-- A script's line played. Below: `code`, mirrors of code.
 pub mod code

@@ -1,3 +1,3 @@
--- Saved tracks read: `Outcome` is what reading comes to, and `Kept` what it owes for the columns of a checked table.
+-- A saved text read. Below: `words`, layouts of words and invariants; `code`, mirrors of code.
 pub mod words
 pub mod code

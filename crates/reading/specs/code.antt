@@ -1,2 +1,2 @@
--- Mirrors of code: what functions compute whatever they are handed.
+-- Mirrors of code: `Outcome`, what reading comes to, whatever the columns hold.
 pub mod Outcome

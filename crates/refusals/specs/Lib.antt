@@ -1,2 +1,2 @@
--- Definitions of refusals.
+-- A table's lines judged. Below: `code`, mirrors of code.
 pub mod code

@@ -6,9 +6,9 @@
 use Prim.Native.Nat.{ℕ, _+_, _≤_}
 use mathlib.Core.Path.{_≡_, refl, sym, ap, _∙_}
 use mathlib.Core.Bool.{Bool, true, false}
-use mathlib.Core.List.{List, [], _∷_, List·Memᴰ·head, List·Memᴰ·tail, List·Memᴰ·cases-cons}
+use mathlib.Core.List.{List, [], _∷_, List·Memᴰ·head, List·Memᴰ·tail}
 use mathlib.Core.Option.{Option, none, some}
-use mathlib.Core.Logic.{_⊎_, inl, inr}
+use mathlib.Core.Logic.{_⊎_}
 use native.Mathlib.Omega.{arith}
 use lib.Dec.{eqb, ltb}
 use borrow.Author.Tests.{eqb-true, eqb-false, eq-eqb, ne-eqb, lt-ltb}
@@ -25,8 +25,8 @@ use Rattle.rules.proofs.Placed.{found}
 use Rattle.rules.proofs.Weighed.{share, share-most, share-more, share-is, share-not, drawn-next}
 use Rattle.rules.proofs.Weighed.{drawn-once, sum, sum-none, between, weight-of}
 use Rattle.rules.proofs.Parents.{runs, arcs-once}
-use Rattle.rules.proofs.Sided.{Splits, opens, Under, true-under, elsewhere, not-elsewhere, when}
-use Rattle.rules.proofs.Sided.{when-most, allowance, allowance-one, allowance-sides, allowance-under}
+use Rattle.rules.proofs.Sided.{Splits, opens, Under, elsewhere, not-elsewhere, when, when-most}
+use Rattle.rules.proofs.Sided.{allowance, allowance-one, allowance-sides, allowance-under}
 use Rattle.rules.proofs.Sided.{allowance-elsewhere}
 use Rattle.rules.proofs.Gauged.{Gauge, gauged}
 
@@ -37,11 +37,6 @@ any w = true
 -- how many labels of j have a place that passes a test
 abbrev pub passing : (Place → Bool) → ℕ → List Label → ℕ
 passing v j ls = weight-of (λ w m. share j m (when (v w) 1)) ls
-
-pub passing-any : (j : ℕ) (ls : List Label) → passing any j ls ≡ tally j ls
-unfolding sum share when tally one
-passing-any j [] = refl
-passing-any j (l ∷ ls) = omega (arith, passing-any j ls)
 
 -- how many arcs lead from n to a reference with such a label
 abbrev pub ways : (Place → Bool) → ℕ → List Label → List Pair → ℕ
@@ -114,26 +109,6 @@ counts v f (List·Memᴰ·head {x = l} e) t h =
     let passes : v (l .place) ≡ true = ap (λ k. v (k .place)) (sym e) ∙ t in
     rw passes (omega (arith, h, ap (λ k. f (k .reference)) e))
 counts v f (List·Memᴰ·tail i) t h = omega (arith, counts v f i t h)
-
--- two that count are of one reference, where the sum is at most 1
-count-same : (v : Place → Bool) (f : ℕ → ℕ) {j k : ℕ} {w u : Place} {ls : List Label} → Labelled ls j w
-    → Labelled ls k u → v w ≡ true → v u ≡ true → 1 ≤ f j → 1 ≤ f k → over v f ls ≤ 1 → j ≡ k
-unfolding sum
-count-same v f {j = j} {k = k} {u = u} (List·Memᴰ·head {x = l} {xs = ls} e) i t t′ h h′ few =
-    go (List·Memᴰ·cases-cons i)
-  where
-    go : (record { reference = k; place = u } ≡ l) ⊎ Labelled ls k u → j ≡ k
-    go (inl e′) = ap (λ k. k .reference) (e ∙ sym e′)
-    go (inr i) =
-        absurd (omega (arith, few, counts v f (List·Memᴰ·head {x = l} {xs = []} e) t h, counts v f i t′ h′))
-count-same v f {j = j} {k = k} {u = u} (List·Memᴰ·tail {x = l} {xs = ls} i) i′ t t′ h h′ few =
-    go (List·Memᴰ·cases-cons i′) (λ i′ few. count-same v f i i′ t t′ h h′ few)
-  where
-    go : (record { reference = k; place = u } ≡ l) ⊎ Labelled ls k u
-        → (Labelled ls k u → over v f ls ≤ 1 → j ≡ k) → j ≡ k
-    go (inl e) more =
-        absurd (omega (arith, few, counts v f i t h, counts v f (List·Memᴰ·head {x = l} {xs = []} e) t′ h′))
-    go (inr i′) more = more i′ (omega (arith, few))
 
 -- of a reference labelled once, the labels weigh what its own does
 weighs-none : (n : ℕ) (f : Place → ℕ) (ls : List Label) → tally n ls ≡ 0
@@ -332,13 +307,6 @@ module _ (ts : List Term) {s : State} (p : Reached ts s) where
       ways-by-labels any n (s .labels) (s .arcs),
     )
 
-    -- so two that it has lead to the same
-    pub one-way-same : {j k : ℕ} {v u : Place} → (Splits (found ts w) → ⊥) → Labelled (s .labels) j v
-        → Labelled (s .labels) k u → 1 ≤ between n j (s .arcs) → 1 ≤ between n k (s .arcs) → j ≡ k
-    one-way-same splits-not a b to-j to-k =
-        count-same any (λ m. between n m (s .arcs)) a b refl refl to-j to-k
-        (omega (arith, few-ways any, allowance-one any w (found ts w) splits-not))
-
     -- a choice or parallel has arcs to labelled nodes of its sides only
     pub sides-on : {j : ℕ} {v : Place} → Splits (found ts w) → Labelled (s .labels) j v
         → 1 ≤ between n j (s .arcs) → Under w 1 v ⊎ Under w 2 v
@@ -358,15 +326,6 @@ module _ (ts : List Term) {s : State} (p : Reached ts s) where
       allowance-under w x (found ts w) splits,
       ways-by-labels (under w x) n (s .labels) (s .arcs),
     )
-
-    -- so two on one side lead to the same
-    pub sides-same : {j k : ℕ} {v u : Place} (x : ℕ) → Splits (found ts w) → Labelled (s .labels) j v
-        → Labelled (s .labels) k u → Under w x v → Under w x u → 1 ≤ between n j (s .arcs)
-        → 1 ≤ between n k (s .arcs) → j ≡ k
-    sides-same {v = v} {u = u} x splits a b on-j on-k to-j to-k =
-        count-same (under w x) (λ m. between n m (s .arcs)) a b (true-under w v x on-j)
-        (true-under w u x on-k) to-j to-k
-        (omega (arith, few-ways (under w x), allowance-under w x (found ts w) splits))
 
     -- a labelled node with arcs into it from two nodes is a sequence's
     pub joined-from-two : (i k : ℕ) → (i ≡ k → ⊥) → 1 ≤ between i n (s .arcs) → 1 ≤ between k n (s .arcs)

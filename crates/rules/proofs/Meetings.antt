@@ -6,8 +6,7 @@
 -- nothing.
 use Prim.Native.Nat.{ℕ, zero, suc, _+_, _*_, _≤_, _<_}
 use mathlib.Core.Path.{_≡_, refl, sym, subst, ap, _∙_}
-use mathlib.Core.List.{List, [], _∷_, _++_, List·Memᴰ, List·Memᴰ·head, List·Memᴰ·tail, Memᴰ·append-left}
-use mathlib.Core.List.{Memᴰ·append-right}
+use mathlib.Core.List.{List, [], _∷_, _++_, List·Memᴰ, List·Memᴰ·head, Memᴰ·append-left, Memᴰ·append-right}
 use mathlib.Core.Option.{Option, none, some}
 use mathlib.Core.Logic.{_⊎_, inl, inr, ⊎-elim}
 use native.Mathlib.Omega.{arith}
@@ -24,8 +23,8 @@ use Rattle.rules.specs.declared.Event.{Event}
 use Rattle.rules.specs.declared.Event.the-variants.{Visible as visible}
 use Rattle.rules.specs.Process.{Address, Process, leaf, prefix, internal, split, sequence, Ω, ⊥′, below}
 use Rattle.rules.specs.Process.{joined, untouched, right-side}
-use Rattle.rules.specs.Track.{Label, Pair, pair, At, Outcome, labelled, prefixed, Entered, around}
-use Rattle.rules.specs.Track.{each-with, meet, jointly, carried, started, ended}
+use Rattle.rules.specs.Track.{Label, Pair, At, Outcome, labelled, prefixed, Entered, around, each-with}
+use Rattle.rules.specs.Track.{meet, jointly, carried, started, ended}
 use Rattle.rules.specs.Tracking.{Shows, passes, hides-τ, hides-✓, Tracks, process-call, prefixing, skip}
 use Rattle.rules.specs.Tracking.{stop, internal-choice-1, internal-choice-2, external-choice-1}
 use Rattle.rules.specs.Tracking.{external-choice-2, external-choice-3, external-choice-4}
@@ -35,7 +34,7 @@ use Rattle.rules.specs.Tracking.{synchronized-parallelism-3, synchronize
 use Rattle.rules.specs.Run.{State, stands, after, Reached, begun, goes-on}
 use Rattle.rules.proofs.Answered.{accepted-exactly}
 use Rattle.rules.proofs.Quiet.{Quiet, quiet-meets-none}
-use Rattle.rules.proofs.Marked.{one, one-same, same-one, tally, tally-append, labelled-once}
+use Rattle.rules.proofs.Marked.{one, same-one, tally, tally-append, labelled-once}
 
 -- how often n is among event nodes
 unfoldable pub among : ℕ → List ℕ → ℕ
@@ -56,13 +55,6 @@ times-append : (i j : ℕ) (g h : List Pair) → times i j (g ++ h) ≡ times i 
 unfolding times
 times-append i j [] h = omega arith
 times-append i j (m ∷ g) h = omega (arith, times-append i j g h)
-
--- a meeting in the list counts
-pub meeting-counts : {i j : ℕ} {g : List Pair} → List·Memᴰ (pair i j) g → 1 ≤ times i j g
-unfolding times
-meeting-counts {i = i} {j = j} (List·Memᴰ·head {x = m} e) =
-    rw (one-same i (m .from) (ap (λ k. k .from) e), one-same j (m .to) (ap (λ k. k .to) e)) (omega arith)
-meeting-counts (List·Memᴰ·tail h) = omega (arith, meeting-counts h)
 
 -- each of the one meets each of the other
 times-with : (i j x : ℕ) (ys : List ℕ) → times i j (each-with x ys) ≡ one i x * among j ys

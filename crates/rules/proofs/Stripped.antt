@@ -229,29 +229,6 @@ module _ {ts : List Term} where
       let (r, d′, t′, y′) = j _ in
       (_, synchronized-parallelism-3 d d′ (t ∙ e) (t′ ∙ f) i c, refl, ap₂ (binary (parallel x)) y y′)
 
-  -- what an address leads to does not depend on where the process stands
-  pub events-agree : {a : Address} {P : Process} {s : At} {r : Outcome} → Tracks ts a P s r
-      → (s′ : At) → (r′ : Outcome) × Tracks ts a P s′ r′
-      × (r′ .event ≡ r .event) × (strip (r′ .process) ≡ strip (r .process))
-  unfolding strip operator labelled prefixed around jointly carried started ended
-  events-agree process-call = λ s. (_, process-call, refl, refl)
-  events-agree prefixing = λ s. (_, prefixing, refl, refl)
-  events-agree skip = λ s. (_, skip, refl, refl)
-  events-agree stop = λ s. (_, stop, refl, refl)
-  events-agree internal-choice-1 = λ s. (_, internal-choice-1, refl, refl)
-  events-agree internal-choice-2 = λ s. (_, internal-choice-2, refl, refl)
-  events-agree (external-choice-1 d t) = reaches-side left (events-agree d) (waits t)
-  events-agree (external-choice-2 d t) = reaches-side right (events-agree d) (waits t)
-  events-agree (external-choice-3 d v) = reaches-chosen left (events-agree d) v
-  events-agree (external-choice-4 d v) = reaches-chosen right (events-agree d) v
-  events-agree (sequential-composition-1 d n) = reaches-on (events-agree d) n
-  events-agree (sequential-composition-2 d t) = reaches-over (events-agree d) t
-  events-agree (synchronized-parallelism-1 d v) = reaches-side left (events-agree d) (shows v)
-  events-agree (synchronized-parallelism-2 d v) = reaches-side right (events-agree d) (shows v)
-  events-agree (synchronized-parallelism-3 d d′ t t′ m c) =
-      reaches-jointly (events-agree d) (events-agree d′) t t′ m c
-  events-agree (synchronized-parallelism-4 t t′) = λ s. (_, synchronized-parallelism-4 t t′, refl, refl)
-
   -- a plain step has an address, the same wherever the process stands
   addressed : (P : Process) {e : Event} {q : Plain} → Steps ts (strip P) e q
       → (a : Address) × Reaches ts a P e q

@@ -1,6 +1,6 @@
--- The report's rules: `Process` is what is stepped, `Track` what a step adds to a track, `Tracking` Fig. 7,
--- `Plain` Fig. 3, `Step` the step of an address worked out, `Run` a run with its rooms, and `Offers` the
--- events that a control offers, and its status.
+-- The report's rules. Meaning: `Process`, what is stepped; `Track`, what a step adds to a track; `Tracking`, Fig. 7;
+-- `Plain`, Fig. 3; `Step`, the step of an address worked out; `Run`, a run with its rooms; `Offers`, what a control
+-- offers, and its status; `Addressed`, digits as an address.
 pub mod Process
 pub mod Track
 pub mod Tracking

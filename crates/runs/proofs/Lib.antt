@@ -1,9 +1,8 @@
--- Laws of a run's doors. Of the code: `CountLaws` of the counters and the rooms, `DoorLaws` of a step and of a script's line.
--- That lent words hold a run, and that the answers are document 01's: `Starting`, a run that has just been started;
--- `Reading` and `Stopping`, digits as an address; `Rooms`, `Weights`, what is weighed; `FewMet`, `Keeping`, `Calling`, `Performing`, the
--- words behind a step; `Answering`, `step-answered` and `step-holds`; `Once`, one run in the
--- same words; `Promises`, what the doors promise of a run; `Tabled`, that a checked table's plan is one of
--- theirs.
+-- Laws of a run's doors. Of the code: `Laws`, of a step by what its tests found. That lent words hold a run, and that
+-- the answers are document 01's: `Starting`, a run that has just been started; `Reading` and `Stopping`, digits as an
+-- address; `Rooms`, `Weights`, what is weighed; `FewMet`, `Keeping`, `Calling`, `Performing`, the words behind a
+-- step; `Answering`, where the answer and the words behind it are document 01's; `Once`, one run in the same words;
+-- `Promises`, what the doors promise of a run; `Tabled`, that a checked table's plan is one of theirs.
 pub mod Starting
 pub mod Reading
 pub mod Stopping

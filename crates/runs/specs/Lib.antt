@@ -1,3 +1,3 @@
--- The doors of a run: `Counting` of its counters and rooms, and `Code` of what the doors come to.
+-- A run's doors. Below: `words`, layouts of words and invariants; `code`, mirrors of code.
 pub mod words
 pub mod code

@@ -1,3 +1,3 @@
--- Tracks saved: `Code` is what saving comes to whatever the words hold, and `Kept` what it owes a run.
+-- A run saved. Below: `words`, layouts of words and invariants; `code`, mirrors of code.
 pub mod words
 pub mod code

@@ -1,2 +1,2 @@
--- Mirrors of code: what functions compute whatever they are handed.
+-- Mirrors of code: `Saving`, what saving comes to, whatever the words hold.
 pub mod Saving

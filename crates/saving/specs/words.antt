@@ -1,2 +1,2 @@
--- Layouts of words and invariants.
+-- Layouts of words and invariants: `Kept`, what saving owes a run.
 pub mod Kept

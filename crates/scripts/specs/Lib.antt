@@ -1,3 +1,3 @@
--- What a script's lines ask for: `Script` is document 01's account, and `Code` what private functions answer.
+-- A script's lines. Meaning: `Script`, what a script's lines ask for. Below: `code`, mirrors of code.
 pub mod Script
 pub mod code

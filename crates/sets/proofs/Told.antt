@@ -4,7 +4,6 @@
 use Prim.Native.Nat.{ℕ, suc, _/_, _%_}
 use mathlib.Core.Path.{_≡_, refl, sym, _∙_}
 use mathlib.Core.Bool.{Bool, true, false, _&&_, _||_, xor, true≢false, false≢true}
-use mathlib.Core.Logic.{_↔_}
 use native.Mathlib.Omega.{arith}
 use lib.Arith.{bin-ind}
 use lib.Bits.{bitAnd, bitOr, bitXor}
@@ -42,13 +41,6 @@ empty-told x = record {
   no-event = λ q k. rw (eqb-true x 0 q) (none-in-zero k);
   some-event = some-member x;
 }
-
--- the answer is yes exactly when no event is in the set
-pub empty-exactly : (x : ℕ) (b : Bool) → Emptiness x b → (b ≡ true) ↔ ((k : ℕ) → member k x ≡ false)
-empty-exactly x true h = (h .no-event, λ none. refl)
-empty-exactly x false h =
-    let found = h .some-event refl in
-    (h .no-event, λ none. absurd (true≢false (sym (found .1) ∙ none (found .0))))
 
 -- the same events are in both
 abbrev Same : ℕ → ℕ → Type 0

@@ -1,3 +1,3 @@
--- What the functions on sets of events promise: `Told` says it by the sets' members.
+-- Sets of events. Meaning: `Told`, sets told by their members; `EventSet`, a set and its members.
 pub mod Told
 pub mod EventSet

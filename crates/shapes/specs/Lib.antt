@@ -1,2 +1,2 @@
--- The shape of a saved track: `Rules` is the reader's rules by marks.
+-- The shape of a saved track. Below: `code`, mirrors of code.
 pub mod code

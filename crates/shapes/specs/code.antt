@@ -1,2 +1,2 @@
--- Mirrors of code: what functions compute whatever they are handed.
+-- Mirrors of code: `Rules`, the reader's rules by marks.
 pub mod Rules

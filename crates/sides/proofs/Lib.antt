@@ -1,2 +1,2 @@
--- Laws of sides.
+-- Laws of this crate: `Laws`, of the sides, by what their tests found.
 pub mod Laws

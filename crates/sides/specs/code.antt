@@ -1,2 +1,2 @@
--- Mirrors of code: what functions compute whatever they are handed.
+-- Mirrors of code: `Sides`, entering them, and what their steps make of it.
 pub mod Sides

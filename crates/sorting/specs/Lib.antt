@@ -1,3 +1,3 @@
--- Definitions of sorting.
+-- Pairs sorted. Below: `words`, layouts of words and invariants; `code`, mirrors of code.
 pub mod words
 pub mod code

@@ -1,2 +1,2 @@
--- Mirrors of code: what functions compute whatever they are handed.
+-- Mirrors of code: `Sorted`, pairs in the order of their keys.
 pub mod Sorted

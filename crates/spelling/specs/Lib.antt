@@ -1,2 +1,2 @@
--- `Puts` is what putting characters comes to.
+-- Bytes spelled as hexadecimal. Meaning: `Puts`, what is put from a cursor on.
 pub mod Puts

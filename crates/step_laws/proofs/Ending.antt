@@ -9,7 +9,7 @@ use native.Mathlib.Omega.{arith}
 use native.Mathlib.Nat.{add-zero}
 use lib.ListN.{length}
 use Rattle.places.specs.Place.{Place}
-use Rattle.rules.specs.Process.{Address, together, Process, split, Ω, cells}
+use Rattle.rules.specs.Process.{Address, together, split, Ω, cells}
 use Rattle.rules.specs.Track.{Pair, parents, ended, lookup}
 use Rattle.rules.specs.Step.{Stepped}
 use Rattle.rules.proofs.Climbing.{Up}
@@ -162,16 +162,3 @@ module _ {l : Layout} {p x : List ℕ} {count : ℕ} {n b : ℕ} {ks : List ℕ}
             ends = end-ends;
             is = rw (beside 2 (omega arith), beside 3 (omega arith));
           }
-
--- the same of sides that are Ω
-pub sides-end : {l : Layout} {p x : List ℕ} {count : ℕ} {n b : ℕ} {ks : List ℕ} {v : Place} {f : ℕ}
-    {m o : Option ℕ}
-    {P Q : Process} {u : Words} → P ≡ Ω → Q ≡ Ω → Entry l p x count left n b ks v (together f) m o P Q u
-    → Fits u (ended m o (at-words n u)) → (at-digit size : ℕ) (a : Address) → capped (at-digit + 1)
-    ≡ count - length a
-    → size ≡ length ks + suc (cells P + cells Q)
-    → Closes l p x count n b ks (split v (together f) m o P Q) u
-    (record { outcome = ended m o (at-words n u); unused = a })
-    (end p n b at-digit size (u .tally) (u .nodes) (u .track))
-sides-end e e′ h fits at-digit size a is-at is-size =
-    rw (e, e′) (end-goes (rw (e, e′) at h) fits at-digit size a is-at (rw (e, e′) at is-size))

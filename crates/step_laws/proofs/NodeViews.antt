@@ -315,9 +315,3 @@ module _ (n side t f : ℕ) (k : Tally) (w : List ℕ) where
 
     pub side-nodes-same : (j : ℕ) → (j ≡ k .fresh → ⊥) → (j ≡ n → ⊥) → Same w (side-nodes n side t f k w) j
     side-nodes-same j other other′ i h = side-nodes-elsewhere i j h (λ e _ _. other e) (λ e _. other′ e)
-
-    pub side-nodes-lasting : label w (k .fresh) ≡ 0 → Lasting w (side-nodes n side t f k w)
-    side-nodes-lasting bare = words-lasting w _
-        (λ i j h q.
-        side-nodes-elsewhere i j (omega arith) (λ e _ _. marked-not-bare w j (k .fresh) bare q e)
-        (λ _ e. omega arith))

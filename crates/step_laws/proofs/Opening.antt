@@ -315,20 +315,3 @@ module _ (l : Layout) (p x : List ℕ) (count n b : ℕ) (ks : List ℕ) (v : Pl
 
 -- the same by either side
 module _ (l : Layout) (p x : List ℕ) (count n b : ℕ) (ks : List ℕ) (v : Place) (k : Split) (u : Words) where
-  pub open-by : (s : Side) (P Q : Process) → Ready l p x count n b (split-by s v k none none P Q) ks u
-      → (first (u .nodes) n ≡ 0) × (second-side (u .nodes) n ≡ 0) → u .tally .fresh ≤ reference-room
-      → Entry l p x count s n b ks v k none none P Q (open-to n u)
-  open-by left P Q ready sideless room = open-entry l p x count n b ks v k P Q u ready sideless room
-  open-by right P Q ready sideless room =
-      entry-turned l p x count n b ks v k (open-to n u) left none none Q P
-      (open-entry l p x count n b ks v k Q P u ready sideless room)
-
-  pub label-by : (s : Side) (P Q : Process) → Ready l p x count n b (split-by s v k none none P Q) ks u
-      → (first (u .nodes) n ≡ 0) × (second-side (u .nodes) n ≡ 0) → u .tally .fresh ≤ reference-room
-      → u .tally .nodes < 4096
-      → Writes l (λ j. held j n (split-by s v k none none P Q)) u (open-to n u) (one-label n v)
-  unfolding held
-  label-by left P Q ready sideless room few =
-      open-writes l p x count n b ks v k P Q u ready sideless room (λ j. one j n) (λ j e. e) few
-  label-by right P Q ready sideless room few =
-      open-writes l p x count n b ks v k Q P u ready sideless room (λ j. one j n) (λ j e. e) few

@@ -156,11 +156,3 @@ module _ {l : Layout} {p x : List ℕ} {count : ℕ} {ts : List Term} {s : Side}
       ≡ go (i .reference) (frame-in p (u .nodes) k n) at-digit size (u′ .tally) (u′ .nodes) (u′ .track)
   unfolding in-side
   in-side-is ds go at-digit size = rw (start-enters .word)
-
--- what is ready draws
-pub ready-draws : {l : Layout} {p x : List ℕ} {count n b : ℕ} {P : Process} {ks : List ℕ} {u : Words}
-    → Ready l p x count n b P ks u → (ts : List Term) (a : Address) (y : Stepped) → step ts P (at-words n u) a
-    ≡ some y
-    → Draws (at-words n u) (y .outcome)
-ready-draws {n = n} {P = P} {u = u} h ts a y is =
-    draws ts (step-derived ts P (at-words n u) a y is .2) (h .fit) (h .once) (h .sound .up)

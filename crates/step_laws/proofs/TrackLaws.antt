@@ -229,9 +229,6 @@ module _ (a b i : ℕ) (g : List ℕ) where
       → arcs-of (with-arc a b i g) (i + 1) ≡ arcs-of g i ++ (pair a b ∷ [])
   arc-added l r p q = pair-grown arc a b i g l r p q .whole
 
-  pub arc-keeps-arcs : (c : ℕ) → c ≤ i → arcs-of (with-arc a b i g) c ≡ arcs-of g c
-  arc-keeps-arcs c h = arcs-kept (pair-within arc a b i g) c (omega arith)
-
   pub arc-keeps-meetings : (c : ℕ) → meetings-of (with-arc a b i g) c ≡ meetings-of g c
   arc-keeps-meetings c = meetings-kept (pair-within arc a b i g) c (omega arith)
 
@@ -243,16 +240,6 @@ module _ (a b i : ℕ) (g : List ℕ) where
 
 -- a meeting
 module _ (m n i : ℕ) (g : List ℕ) where
-  pub meeting-added : length g ≡ track-words → i < 4096 → m < 65536 → n < 65536
-      → meetings-of (with-meeting m n i g) (i + 1) ≡ meetings-of g i ++ (pair m n ∷ [])
-  meeting-added l r p q = pair-grown meeting m n i g l r p q .whole
-
-  pub meeting-keeps-arcs : (c : ℕ) → c ≤ 8192 → arcs-of (with-meeting m n i g) c ≡ arcs-of g c
-  meeting-keeps-arcs c h = arcs-kept (pair-within meeting m n i g) c (omega arith)
-
-  pub meeting-keeps-meetings : (c : ℕ) → c ≤ i → meetings-of (with-meeting m n i g) c ≡ meetings-of g c
-  meeting-keeps-meetings c h = meetings-kept-below (pair-within meeting m n i g) c (omega arith)
-
   pub meeting-keeps-nodes : (j c : ℕ) → event-nodes (with-meeting m n i g) j c ≡ event-nodes g j c
   meeting-keeps-nodes j c = nodes-kept (pair-within meeting m n i g) j c (omega arith)
 

@@ -1,2 +1,2 @@
--- What a step writes: `Marks`, the steps of `Leaves` and of `Sides`, and `Take`, the whole.
+-- The step of an address taken. Below: `code`, mirrors of code.
 pub mod code

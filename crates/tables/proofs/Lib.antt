@@ -1,6 +1,6 @@
--- Laws of tables: `Rooms`, `Taken` and `Kept` of taking a frame in, `Judged` of a line's turn, `Loop` of all
--- lines, `Walked` of the preorder walk, `Whole` of the text and the columns, `Settled`: the check's promise
--- allows one outcome; and `Cases`, judged by computation.
+-- Laws of this crate: `Kept`, of what the loop keeps; `Judged`, of a line's turn; `Loop`, of all lines; `Whole`, of
+-- the text and the columns; `Settled`, that the check's promise allows one outcome; `Cases`, texts judged by
+-- computation.
 pub mod Kept
 pub mod Judged
 pub mod Loop

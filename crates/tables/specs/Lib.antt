@@ -1,4 +1,4 @@
--- Tables of terms: `Table` is what a table's text says and which refusal it meets, `Columns` where that goes
--- in lent arrays, and `Code` what the functions compute whatever they are handed.
+-- A table's text. Meaning: `Table`, what a table's text says and which refusal it meets. Below: `words`, layouts of
+-- words and invariants.
 pub mod Table
 pub mod words

@@ -1,2 +1,2 @@
--- Laws of telling.
+-- Laws of this crate: `Laws`, of the lines that are put.
 pub mod Laws

@@ -1,2 +1,2 @@
--- Definitions of telling.
+-- Lines of a listing. Meaning: `ListingFrame`, the frames of a listing.
 pub mod ListingFrame

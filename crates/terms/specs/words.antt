@@ -1,2 +1,2 @@
--- Layouts of words and invariants.
+-- Layouts of words and invariants: `Held`, how columns hold them.
 pub mod Held

@@ -24,7 +24,7 @@ use Rattle.terms.specs.Term.{leaf-kind, operator-kind, definitions-of}
 use Rattle.terms.specs.words.Held.{Holds}
 use Rattle.terms.specs.Term as Term
 use Rattle.terms.proofs.Held.{holds-behind, size-some}
-use Rattle.places.specs.Place.{Place, path-in, term-at, left-path, own, event, begins, under}
+use Rattle.places.specs.Place.{Place, path-in, term-at, left-path, own, begins, under}
 use Rattle.columns.specs.words.Columns.{look, columns}
 use Rattle.columns.proofs.Laws.{look-in}
 use Rattle.places.proofs.Sides.{Side, first, second, side-inside}

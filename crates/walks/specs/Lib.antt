@@ -1,3 +1,2 @@
--- Graphs in columns, whatever they hold: `Columns` has their words, `Linked` where arcs lead by the marks of their ends, and
--- `Walked` the walk and the numbers that it gives.
+-- The numbering walk over a graph in columns. Below: `code`, mirrors of code.
 pub mod code

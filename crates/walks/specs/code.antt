@@ -1,2 +1,2 @@
--- Mirrors of code: what functions compute whatever they are handed.
+-- Mirrors of code: `Walked`, the walk and the numbers that it gives.
 pub mod Walked

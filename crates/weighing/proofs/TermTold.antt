@@ -14,7 +14,7 @@ use Rattle.lines.specs.Line.{choose}
 use Rattle.frames.specs.TableFrame.{term-room, path-room}
 use Rattle.places.specs.Place.{Place}
 use Rattle.terms.specs.Term.{Leaf, call, SKIP, STOP, internal, external, sequence, parallel, Term, leaf}
-use Rattle.terms.specs.Term.{prefix, binary, leaf-kind, operator-kind, operator-payload, Shallow}
+use Rattle.terms.specs.Term.{prefix, binary, leaf-kind, operator-kind, operator-payload}
 use Rattle.rules.specs.declared.Event.{Event}
 use Rattle.rules.specs.declared.Event.the-variants.{Tau as τ, Tick as ✓, Visible as visible}
 use Rattle.rules.specs.Process.{one, two, three, four, Address, Split, choice, together, Process, split}
@@ -47,19 +47,6 @@ unfolding levels
 levels-some (leaf f) = omega arith
 levels-some (prefix e t) = omega arith
 levels-some (binary o t u) = omega arith
-
--- a term whose paths have at most 64 digits has few levels
-shallow-from : (n : ℕ) (t : Term) → Shallow n t → n + levels t ≤ 65
-unfolding levels
-shallow-from n (leaf f) h = omega arith
-shallow-from n (prefix e t) h = omega arith
-shallow-from n (binary o t u) h =
-    let k = shallow-from (n + 1) t (h .1 .0) in
-    let j = shallow-from (n + 1) u (h .1 .1) in
-    omega arith
-
-pub shallow-levels : (t : Term) → Shallow 0 t → levels t ≤ 66
-shallow-levels t h = let k = shallow-from 0 t h in omega arith
 
 -- so has a term of a plan, where no place of the layout has a path of more digits
 below-length : (w : Place) (d : ℕ) → length (below w d .path) ≡ suc (length (w .path))

@@ -1,2 +1,2 @@
--- Weighing a step: `Sums` of counts, `Rules` of weights, `Looking` at what stands on the way, and `Weigh`.
+-- Weighing a step. Below: `code`, mirrors of code.
 pub mod code

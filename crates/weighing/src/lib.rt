@@ -11,7 +11,6 @@ use control::STATE;
 use control::TERM;
 use control::Track;
 use control::UNTOUCHED;
-use control::less;
 use control::sum;
 use control::word;
 use looking::digit_at;

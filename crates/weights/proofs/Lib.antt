@@ -1,2 +1,2 @@
--- Laws of weights.
+-- Laws of this crate: `RuleLaws`, of each rule, by what its tests found.
 pub mod RuleLaws

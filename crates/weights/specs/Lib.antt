@@ -1,2 +1,2 @@
--- Definitions of weights.
+-- Weights of steps, rule by rule. Below: `code`, mirrors of code.
 pub mod code

@@ -1,2 +1,2 @@
--- Mirrors of code: what functions compute whatever they are handed.
+-- Mirrors of code: `Rules`, what each rule makes of the weights of its premises.
 pub mod Rules

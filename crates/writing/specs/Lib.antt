@@ -1,3 +1,2 @@
--- `Told` is the graph that columns tell, and what writing it comes to; `Code` is what an answer of
--- `places::place` tells.
+-- A graph written. Below: `words`, layouts of words and invariants.
 pub mod words

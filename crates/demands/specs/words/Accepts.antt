@@ -1,0 +1,25 @@
+-- A step through its door that document 01 accepts, with an outcome that the door's promise allows.
+use Prim.Native.Nat.{ℕ}
+use mathlib.Core.Path.{_≡_}
+use mathlib.Core.List.{List}
+use mathlib.Core.Option.{some}
+use Rattle.tables.specs.Table.{Sofar}
+use Rattle.terms.specs.Term.{definitions-of}
+use Rattle.rules.specs.declared.Event.{Event}
+use Rattle.rules.specs.Process.{Address}
+use Rattle.rules.specs.Run.{State, answer}
+use Rattle.rules.specs.Run as Run
+use Rattle.runs.specs.words.Held.{addressed}
+use Rattle.runs.specs.declared.Answer.{Answer}
+use Rattle.demands.specs.words.Words.{Words, HoldsRun, Steps}
+
+-- a step by an address that document 01 accepts, from words that hold a run, with an outcome that the step's promise allows
+pub record Accepts (p x : List ℕ) (t : Sofar) (v : Words) (r : Answer) (v′ : Words) (s : State) (e : Event) (s′ : State)
+    : Type 0 where
+  pub digits : List ℕ
+  pub count : ℕ
+  pub address : Address
+  pub held : HoldsRun p x t v s
+  pub promised : Steps p x digits count v r v′
+  pub named : addressed digits count ≡ some address
+  pub accepts : answer (definitions-of t) s address ≡ Run.accepted e s′
