@@ -1,12 +1,12 @@
 """The differential run: a proved program and the independent program on the same inputs.
 
-    python3 tests/differential.py [--count N] [--seed S] [--first I] [--program NAME]
+    python3 tests/checks/differential.py [--count N] [--seed S] [--first I] [--program NAME]
 
 It runs target/bin/NAME once for every input, as the kit's rt runs it, and holds what the program prints
-against the independent program's listing: judge on the inputs of generate.py, play on those of runs.py, reread
-on those of tracks.py, track on those of inputs.py. The first difference ends the run with status 1; what is
-printed then says how to see it again. Without any, one line tells the inputs, the outcomes and the seconds. On the
-way a line now and then tells how far it is, and how to go on from there.
+against the independent program's listing: of the generators, judge has the inputs of tables.py, play those of
+runs.py, reread those of tracks.py and track those of inputs.py. The first difference ends the run with status 1;
+what is printed then says how to see it again. Without any, one line tells the inputs, the outcomes and the
+seconds. On the way a line now and then tells how far it is, and how to go on from there.
 """
 
 import argparse
@@ -21,15 +21,13 @@ import tempfile
 import time
 from typing import Callable, NamedTuple
 
-import generate
-import independent
-import inputs
-import rules
-import runs
-import saved
-import tracks
-from families import DEFAULT_SEED, Families, told_counts
-from programs import Answer, answer_of, prepared
+if __name__ == "__main__":  # as a command, too, packages are found from the repository
+    sys.path[0] = str(pathlib.Path(__file__).resolve().parents[2])
+
+from tests.generators import inputs, runs, tables, tracks
+from tests.generators.families import DEFAULT_SEED, Families, told_counts
+from tests.independent import frames, rules, saved
+from tools.programs import Answer, answer_of, prepared
 
 WORKERS = 2
 INPUTS_AT_A_TIME = 20
@@ -52,7 +50,7 @@ class Subject(NamedTuple):
 
 
 SUBJECTS = {
-    "judge": Subject(generate.FAMILIES, independent.listing, independent.outcome),
+    "judge": Subject(tables.FAMILIES, frames.listing, frames.outcome),
     "play": Subject(runs.FAMILIES, rules.play_listing, rules.play_outcome),
     "reread": Subject(tracks.FAMILIES, saved.reread_listing, saved.reread_outcome),
     "track": Subject(inputs.FAMILIES, rules.listing, rules.outcome),
@@ -145,7 +143,7 @@ def tell_difference(program, seed, compared):
         (kept / name).write_bytes(content)
     index, family = compared.index, subject.families.family_of(compared.index).__name__
     print(f"DIFFERENT: seed {seed}, index {index}, family {family}")
-    print(f"again: python3 tests/differential.py --program {program} --seed {seed} --first {index} --count 1")
+    print(f"again: python3 tests/checks/differential.py --program {program} --seed {seed} --first {index} --count 1")
     print(f"the input, {len(given)} bytes: {kept / 'input'}; both outputs are beside it")
     if len(given) <= SHORT_INPUT:
         print("\n".join("    " + line for line in shown_lines(given)))

@@ -1,7 +1,7 @@
-"""The cases of document 01, A to M, and the edges around them, kept as files: tests/cases/NAME.in and NAME.out.
+"""The cases of document 01, A to M, and the edges around them, kept as cases/NAME.in and NAME.out.
 
-    python3 tests/cases.py          runs target/bin/track on every input, handed over whole and in pieces
-    python3 tests/cases.py --make   writes every file again, the outputs by the independent program
+    python3 tests/checks/cases.py          runs target/bin/track on every input, handed over whole and in pieces
+    python3 tests/checks/cases.py --make   writes every file again, the outputs by the independent program
 
 The first difference from a kept output ends the run with status 1.
 """
@@ -13,14 +13,17 @@ import random
 import sys
 import time
 
-import rules
-from differential import side_by_side
-from generate import Padding, padded, step_line, text_of
-from independent import TABLE_ROOM
-from inputs import SIDES, filled, steps_for
-from programs import Answer, answer_in_pieces, answer_of, prepared
-from rules import CELL_ROOM, NODE_ROOM, SAVE_ROOM
-from runs import CASES, LONGEST_NEST, NO_EVENT, call, nest_of, parallel_on, table_of
+if __name__ == "__main__":  # as a command, too, packages are found from the repository
+    sys.path[0] = str(pathlib.Path(__file__).resolve().parents[2])
+
+from tests.checks.differential import side_by_side
+from tests.generators.inputs import SIDES, filled, steps_for
+from tests.generators.runs import CASES, LONGEST_NEST, NO_EVENT, call, nest_of, parallel_on, table_of
+from tests.generators.tables import Padding, padded, step_line, text_of
+from tests.independent import rules
+from tests.independent.frames import TABLE_ROOM
+from tests.independent.rules import CELL_ROOM, NODE_ROOM, SAVE_ROOM
+from tools.programs import Answer, answer_in_pieces, answer_of, prepared
 
 KEPT = pathlib.Path(__file__).resolve().parent / "cases"
 PIECE_BYTES = (1, 2, 3, 5, 7, 11, 31, 4_093, 16_381)  # over and over

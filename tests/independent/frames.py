@@ -1,9 +1,9 @@
-"""The independent program: document 01 told a second time, in Python, to hold the proved programs against.
+"""The independent program's frames: document 01's lines, tables with their places, and script lines.
 
-It is written from document 01 alone and shares nothing with the crates. It has the frames: lines, tables
-with their places, and script lines. `listing` gives what the program judge has to print for an input:
+It is written from document 01 alone and shares nothing with the crates. `listing` gives what the program judge
+has to print for an input:
 
-    python3 tests/independent.py < input
+    python3 tests/independent/frames.py < input
 
 Every number of refusal is tested by a function of its own, in ascending order, so that the lowest wins.
 """

@@ -6,10 +6,12 @@ The outcomes are told by the independent rules; what they have to be is written 
 import random
 import unittest
 
-import runs
-from families import DEFAULT_SEED
-from independent import ADDRESS_ROOM, SCRIPT_ROOM, Refusal, cut_input, judge_table
-from rules import ARC_ROOM, CELL_ROOM, MEETING_ROOM, NODE_ROOM, TAU, TICK, Derivation, cells, offers
+from tests.generators import runs
+from tests.generators.families import DEFAULT_SEED
+from tests.independent.frames import ADDRESS_ROOM, SCRIPT_ROOM, Refusal, cut_input, judge_table
+from tests.independent.rules import (
+    ARC_ROOM, CELL_ROOM, MEETING_ROOM, NODE_ROOM, TAU, TICK, Derivation, cells, offers,
+)
 
 OUTCOMES = {f"refused {number}" for number in (1, 2, 3, 7, 8, 9, 10, 11)} | {"live", "ended", "stuck"}
 FIRST_INDICES = 2_000  # among which every outcome is met; the search ends with the last of them
@@ -123,7 +125,3 @@ class Cases(unittest.TestCase):
         answers = [judge_table(runs.text_of(draft.lines).encode("ascii")) for draft, _ in runs.CASES.values()]
         refused = [answer for answer in answers if isinstance(answer, Refusal)]
         self.assertEqual((refused, answers[-1]), ([Refusal(5, 67)], Refusal(5, 67)))
-
-
-if __name__ == "__main__":
-    unittest.main()

@@ -1,24 +1,32 @@
 """Inputs for the tracking program: a table and a script, good, cut short, damaged, made up, and by every room.
 
-Runs come from runs.py and tables from generate.py, whose words are used here; families.py says how an input
+Runs come from runs.py and tables from tables.py, whose words are used here; families.py says how an input
 follows from a seed and an index. What is added is damage to whole inputs, and texts of an exact length: the
 table's, the script's, both together, and the saved track's.
 
-    python3 tests/inputs.py [--seed S] [--index I] [--count N]
+    python3 tests/generators/inputs.py [--seed S] [--index I] [--count N]
 """
 
+import pathlib
+import sys
 from typing import NamedTuple
 
-import generate as judged
-import rules
-import runs
-from families import Families, command
-from generate import assemble, damage_by_foreign, damage_line, part_damaged, script_of_length, small_table
-from generate import step_line, term_line, text_of
-from independent import ADDRESS_ROOM, PARALLEL, SCRIPT_ROOM, TABLE_ROOM, cut_input
-from rules import SAVE_ROOM, saved_text
-from runs import E0, E0_STOP, NO_EVENT, SKIP_SKIP, SKIPS, STOPS, Script, call, finished, nest_of, parallel
-from runs import parallel_on, prefixes, sequence, some_shape, table_of
+if __name__ == "__main__":  # as a command, too, packages are found from the repository
+    sys.path[0] = str(pathlib.Path(__file__).resolve().parents[2])
+
+from tests.generators import runs, tables
+from tests.generators.families import Families, command
+from tests.generators.runs import (
+    E0, E0_STOP, NO_EVENT, SKIP_SKIP, SKIPS, STOPS, Script, call, finished, nest_of, parallel, parallel_on, prefixes,
+    sequence, some_shape, table_of,
+)
+from tests.generators.tables import (
+    assemble, damage_by_foreign, damage_line, part_damaged, script_of_length, small_table, step_line, term_line,
+    text_of,
+)
+from tests.independent import rules
+from tests.independent.frames import ADDRESS_ROOM, PARALLEL, SCRIPT_ROOM, TABLE_ROOM, cut_input
+from tests.independent.rules import SAVE_ROOM, saved_text
 
 INPUT_ROOM = TABLE_ROOM + SCRIPT_ROOM
 FAR_OVER = 200_000  # bytes
@@ -163,18 +171,18 @@ def by_an_edge(rng, room):
 
 def padded_table(rng, length):
     """A table's text of exactly so many bytes, through its `1f` line."""
-    _, *ended = judged.some_paddings(rng)
-    return judged.padded(judged.start_of_a_table(rng), rng.choice(ended), length)
+    _, *ended = tables.some_paddings(rng)
+    return tables.padded(tables.start_of_a_table(rng), rng.choice(ended), length)
 
 
 def endless_table(rng, length):
     """A text of exactly so many bytes without a `1f` line."""
-    endless, *_ = judged.some_paddings(rng)
-    return judged.padded(judged.start_of_a_table(rng), endless, length)
+    endless, *_ = tables.some_paddings(rng)
+    return tables.padded(tables.start_of_a_table(rng), endless, length)
 
 
 def some_script(rng):
-    return text_of(judged.good_script(rng))
+    return text_of(tables.good_script(rng))
 
 
 def by_the_room_for_table_text(rng):
@@ -212,7 +220,7 @@ def far_over_the_room_for_table_text(rng):
 def far_over_the_room_for_script_text(rng):
     """A table, good or refused, with a script far over its room behind it."""
     draft = small_table(rng)
-    table = rng.choice((draft.lines, judged.wrong_count_or_number(rng, draft)))
+    table = rng.choice((draft.lines, tables.wrong_count_or_number(rng, draft)))
     return text_of(table + script_of_length(rng, FAR_OVER))
 
 
@@ -274,7 +282,7 @@ def steps_for(length, sides):
 class Filled(NamedTuple):
     """A run whose saved text has an exact length: its table, its first steps, and further ones in any order."""
 
-    table: judged.Draft
+    table: tables.Draft
     first: list
     further: list
 

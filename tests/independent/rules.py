@@ -4,14 +4,18 @@ It is written from document 01 and the report's Fig. 7, and shares nothing with 
 track in place and takes back what it added where it is refused. `listing` gives what document 01's tracking
 program prints for an input, and `play_listing` what the program play prints, which is the inside of the run:
 
-    python3 tests/rules.py < input
-    python3 tests/rules.py play < input
+    python3 tests/independent/rules.py < input
+    python3 tests/independent/rules.py play < input
 """
 
+import pathlib
 import sys
 from typing import Any, NamedTuple, Optional
 
-from independent import (
+if __name__ == "__main__":  # as a command, too, packages are found from the repository
+    sys.path[0] = str(pathlib.Path(__file__).resolve().parents[2])
+
+from tests.independent.frames import (
     CALL, EXTERNAL_CHOICE, INTERNAL_CHOICE, KINDS, PARALLEL, PREFIX, SCRIPT_ROOM, SEQUENCE, SKIP, STOP,
     Refusal, Term, cut_input, event_place, judge_script_line, judge_table, left_hand_side, split_lines,
 )

@@ -1,6 +1,6 @@
 """Running a program of this repository as the kit's rt runs it.
 
-    python3 tests/programs.py NAME < input
+    python3 tools/programs.py NAME < input
 
 runs target/bin/NAME on standard input and prints what it prints.
 """

@@ -6,10 +6,11 @@ A text is written as document 01 writes its case A: `/` for LF.
 import re
 import unittest
 
-import cases
-from independent import SCRIPT_ROOM, TABLE_ROOM, cut_input
-from rules import SAVE_ROOM, listing
-from test_rules import CASE_A_TRACK, text
+from tests.checks import cases
+from tests.checks.test_rules import CASE_A_TRACK, text
+from tests.independent.frames import SCRIPT_ROOM, TABLE_ROOM, cut_input
+from tests.independent.rules import SAVE_ROOM, listing
+from tools.programs import REPOSITORY
 
 
 def told(name):
@@ -114,7 +115,7 @@ class Cases(unittest.TestCase):
         self.assertEqual(told("m"), ["4100", "3001000000000000", "3f"])
 
 
-PROVED = cases.KEPT.parent.parent / "crates" / "listing" / "proofs" / "Cases.antt"
+PROVED = REPOSITORY / "crates" / "listing" / "proofs" / "Cases.antt"
 TOKEN = re.compile(r'"([^"]*)"|([^\s()"]+)')
 
 
@@ -168,7 +169,3 @@ class Edges(unittest.TestCase):
     def test_saved_text(self):
         self.assertEqual(len("/".join(track("saved-65536")) + "/"), SAVE_ROOM)
         self.assertEqual((track("saved-65537"), refusals("saved-65537")), ([], ["4e0c0000"]))
-
-
-if __name__ == "__main__":
-    unittest.main()

@@ -9,10 +9,10 @@ import itertools
 import random
 import unittest
 
-import inputs
-from generate import text_of
-from independent import SCRIPT_ROOM, TABLE_ROOM, TERM_ROOM, Table, cut_input, judge_table
-from rules import SAVE_ROOM, Run, listing, run_listing, saved_text
+from tests.generators import inputs
+from tests.generators.tables import text_of
+from tests.independent.frames import SCRIPT_ROOM, TABLE_ROOM, TERM_ROOM, Table, cut_input, judge_table
+from tests.independent.rules import SAVE_ROOM, Run, listing, run_listing, saved_text
 
 SIX_ALONE, TWELVE = b"4e060000\n", b"4e0c0000\n"
 
@@ -142,7 +142,3 @@ class RoomForSavedText(unittest.TestCase):
             self.assertGreater(len(self.saved(given)[0]), SAVE_ROOM + 1)
             self.assertTrue(listing(given).endswith(TWELVE))
         self.assertLess({"refused 7", "refused 12"}, set(map(inputs.outcome, inputs_made)))
-
-
-if __name__ == "__main__":
-    unittest.main()

@@ -3,15 +3,22 @@
 The families stand at the end of this file; families.py says how an input follows from a seed and an index. Here
 a text is a str of Latin-1 characters, a byte each, and a line is one without its LF.
 
-    python3 tests/generate.py [--seed S] [--index I] [--count N]
+    python3 tests/generators/tables.py [--seed S] [--index I] [--count N]
 """
 
+import pathlib
+import sys
 from typing import NamedTuple
 
-import independent
-from families import Families, command
-from independent import ADDRESS_ROOM, KINDS, MOST_DEFINITIONS, PATH_ROOM, SCRIPT_ROOM, TABLE_ROOM, TERM_ROOM
-from independent import CALL, EXTERNAL_CHOICE, INTERNAL_CHOICE, PARALLEL, PREFIX, SEQUENCE, SKIP, STOP
+if __name__ == "__main__":  # as a command, too, packages are found from the repository
+    sys.path[0] = str(pathlib.Path(__file__).resolve().parents[2])
+
+from tests.generators.families import Families, command
+from tests.independent import frames
+from tests.independent.frames import (
+    ADDRESS_ROOM, CALL, EXTERNAL_CHOICE, INTERNAL_CHOICE, KINDS, MOST_DEFINITIONS, PARALLEL, PATH_ROOM, PREFIX,
+    SCRIPT_ROOM, SEQUENCE, SKIP, STOP, TABLE_ROOM, TERM_ROOM,
+)
 
 LEAVES = (CALL, SKIP, STOP)
 OPERATORS = (INTERNAL_CHOICE, EXTERNAL_CHOICE, SEQUENCE, PARALLEL)
@@ -741,7 +748,7 @@ FAMILIES = Families("", SHARES)
 
 
 def outcome(given):
-    return independent.outcome(independent.listing(given))
+    return frames.outcome(frames.listing(given))
 
 
 if __name__ == "__main__":

@@ -1,15 +1,13 @@
-"""Tests of the independent program itself, against answers written by hand from document 01.
-
-    python3 -m unittest discover -s tests
+"""Tests of the independent program's frames, against answers written by hand from document 01.
 
 A text is written as document 01 writes its case A: `/` for LF.
 """
 
 import unittest
 
-import generate
-from families import DEFAULT_SEED
-from independent import Place, Refusal, Table, event_place, judge_script_line, judge_table, listing
+from tests.generators import tables
+from tests.generators.families import DEFAULT_SEED
+from tests.independent.frames import Place, Refusal, Table, event_place, judge_script_line, judge_table, listing
 
 CASE_A_TABLE = "10010101/1100/12060000000000000001/120200/1207/120200/1208/1f0005/"
 CASE_A_SCRIPT = "200000/20000103/20000101/20000102/"
@@ -283,7 +281,7 @@ class GoodInputs(unittest.TestCase):
     """What the generators call good is accepted, with the counts they meant."""
 
     def test_good_inputs(self):
-        families = generate.FAMILIES
+        families = tables.FAMILIES
         for index in range(0, 100 * len(families.round), len(families.round)):
             given = families.generate(DEFAULT_SEED, index)
             lines = given.decode("ascii").splitlines()
@@ -293,7 +291,3 @@ class GoodInputs(unittest.TestCase):
             answer = listing(given).decode("ascii").splitlines()
             self.assertEqual(answer[0], f"table accepted {definitions} {events} {terms}")
             self.assertEqual(len(answer), 1 + definitions + terms + steps)
-
-
-if __name__ == "__main__":
-    unittest.main()

@@ -1,23 +1,32 @@
 """Inputs for the program play: a table, and a script whose steps are mostly accepted.
 
-The words of generate.py are used here, and families.py says how an input follows from a seed and an index. A
+The words of tables.py are used here, and families.py says how an input follows from a seed and an index. A
 script is made by playing it with the independent rules: the next address is drawn from those that the control
 has derivations for. Refusals come in on purpose, at a run's end or where a run passes one of its rooms.
 
-    python3 tests/runs.py [--seed S] [--index I] [--count N]
+    python3 tests/generators/runs.py [--seed S] [--index I] [--count N]
 """
 
 import itertools
+import pathlib
+import sys
 from typing import NamedTuple
 
-import generate as judged
-import rules
-from families import Families, command
-from generate import any_script_line, assemble, some_place, step_line, term_line, text_of, within
-from independent import ADDRESS_ROOM, KINDS, SCRIPT_ROOM, Refusal, judge_table
-from independent import CALL, EXTERNAL_CHOICE, INTERNAL_CHOICE, PARALLEL, PREFIX, SEQUENCE, SKIP, STOP
-from rules import ARC_ROOM, BOTTOM, CELL_ROOM, MEETING_ROOM, NODE_ROOM, OMEGA, TAU, TICK
-from rules import Run, Sides, Started, cells, in_set, opened
+if __name__ == "__main__":  # as a command, too, packages are found from the repository
+    sys.path[0] = str(pathlib.Path(__file__).resolve().parents[2])
+
+from tests.generators import tables
+from tests.generators.families import Families, command
+from tests.generators.tables import any_script_line, assemble, some_place, step_line, term_line, text_of, within
+from tests.independent import rules
+from tests.independent.frames import (
+    ADDRESS_ROOM, CALL, EXTERNAL_CHOICE, INTERNAL_CHOICE, KINDS, PARALLEL, PREFIX, SCRIPT_ROOM, SEQUENCE, SKIP, STOP,
+    Refusal, judge_table,
+)
+from tests.independent.rules import (
+    ARC_ROOM, BOTTOM, CELL_ROOM, MEETING_ROOM, NODE_ROOM, OMEGA, TAU, TICK, Run, Sides, Started, cells, in_set,
+    opened,
+)
 
 SKEWED = ("left", "right")
 LONGEST_NEST = 60  # digits that leave room in a path for what stands below
@@ -95,7 +104,7 @@ def parallel_on(events):
 
 
 def some_shape(rng, parts):
-    return rng.choice(judged.SHAPES) if parts <= LONGEST_NEST else "even"
+    return rng.choice(tables.SHAPES) if parts <= LONGEST_NEST else "even"
 
 
 # ---- tables
@@ -412,16 +421,16 @@ def that_meets(rng):
 
 def of_any_table(rng):
     """A run of a table that judge is given too: of any size and shape, by the room for paths or for terms."""
-    deep, _ = judged.deep_table(rng, rng.choice((20, 62, 63)))
-    full = judged.full_table(rng, judged.TERM_ROOM)
-    script = Script(rng.choice((judged.good_table(rng), judged.good_table(rng), deep, full)))
+    deep, _ = tables.deep_table(rng, rng.choice((20, 62, 63)))
+    full = tables.full_table(rng, tables.TERM_ROOM)
+    script = Script(rng.choice((tables.good_table(rng), tables.good_table(rng), deep, full)))
     walk(rng, script, some_steps(rng))
     return finished(rng, script)
 
 
 def as_judged(rng):
     """An input for judge: its table is mostly refused, and its script drawn without regard to the table."""
-    return rng.choice(judged.FAMILIES.round)(rng)
+    return rng.choice(tables.FAMILIES.round)(rng)
 
 
 # ---- families: document 01's cases

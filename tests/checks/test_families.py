@@ -6,13 +6,11 @@ import subprocess
 import sys
 import unittest
 
-import generate
-import inputs
-import runs
-import tracks
-from families import DEFAULT_SEED, Families
+from tests.generators import inputs, runs, tables, tracks
+from tests.generators.families import DEFAULT_SEED, Families
+from tools.programs import REPOSITORY
 
-GENERATORS = (generate, runs, tracks, inputs)
+GENERATORS = (tables, runs, tracks, inputs)
 
 
 def some_inputs(generator):
@@ -28,8 +26,8 @@ def digest_of_inputs():
 
 def digest_elsewhere(hash_seed):
     """The same digest from a Python whose sets and dictionaries of strings are ordered otherwise."""
-    given = [sys.executable, "-B", "-c", "import test_families; print(test_families.digest_of_inputs())"]
-    environment = dict(os.environ, PYTHONHASHSEED=hash_seed, PYTHONPATH=os.path.dirname(__file__))
+    given = [sys.executable, "-B", "-c", f"from {__name__} import digest_of_inputs; print(digest_of_inputs())"]
+    environment = dict(os.environ, PYTHONHASHSEED=hash_seed, PYTHONPATH=str(REPOSITORY))
     return subprocess.run(given, capture_output=True, env=environment, text=True, check=True).stdout.strip()
 
 
@@ -49,7 +47,3 @@ class Inputs(unittest.TestCase):
             families = generator.FAMILIES
             drawn = [families.family_of(index) for index in range(len(families.round), 2 * len(families.round))]
             self.assertEqual({family: drawn.count(family) for family in drawn}, generator.SHARES)
-
-
-if __name__ == "__main__":
-    unittest.main()

@@ -4,15 +4,12 @@ The listings are the independent program's.
 """
 
 import re
-import sys
 import unittest
 
-from independent import cut_input
-from programs import REPOSITORY
-from rules import listing
-
-sys.path.insert(0, str(REPOSITORY / "tools"))
-import words
+from tests.independent.frames import cut_input
+from tests.independent.rules import listing
+from tools import words
+from tools.programs import REPOSITORY
 
 EXAMPLES = REPOSITORY / "examples"
 README = (EXAMPLES / "README.md").read_text("utf-8")
@@ -72,7 +69,3 @@ class Shows(unittest.TestCase):
             definitions, events = bytes.fromhex(given(show)[:8].decode("ascii"))[2:]
             numbered = {("definition", n) for n in range(definitions)} | {("event", n) for n in range(events)}
             self.assertEqual(set(names), numbered, show)
-
-
-if __name__ == "__main__":
-    unittest.main()

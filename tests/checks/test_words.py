@@ -8,12 +8,10 @@ import sys
 import tempfile
 import unittest
 
-from programs import REPOSITORY
-from rules import listing
-from test_rules import CASE_A_TRACK, text
-
-sys.path.insert(0, str(REPOSITORY / "tools"))
-import words
+from tests.checks.test_rules import CASE_A_TRACK, text
+from tests.independent.rules import listing
+from tools import words
+from tools.programs import REPOSITORY
 
 EMPTY_TRACK = "3001000000000000/3f/"
 CASE_A = "4000/400200/4000/4000/4102/" + CASE_A_TRACK
@@ -208,7 +206,3 @@ class Faults(unittest.TestCase):
             run_words(text("4000/4003/4100/" + EMPTY_TRACK)),
             ("", "words: line 2 is no line of a listing, or not in its place: '4003'\n", 1),
         )
-
-
-if __name__ == "__main__":
-    unittest.main()

@@ -6,11 +6,11 @@ A text is written as document 01 writes its case A: `/` for LF.
 import random
 import unittest
 
-import tracks
-from independent import Refusal, cut_input, judge_table
-from rules import saved_text
-from saved import Graph, graph_text, has_shape, read_saved, reread_listing, reread_outcome
-from test_rules import CASE_A, CASE_A_TRACK, played, text
+from tests.checks.test_rules import CASE_A, CASE_A_TRACK, played, text
+from tests.generators import tracks
+from tests.independent.frames import Refusal, cut_input, judge_table
+from tests.independent.rules import saved_text
+from tests.independent.saved import Graph, graph_text, has_shape, read_saved, reread_listing, reread_outcome
 
 ON_E0 = "1206" + "00" * 7 + "01/"
 TABLE_A = "10010101/1100/" + CASE_A[0] + "1f0005/"
@@ -159,7 +159,3 @@ class Generated(unittest.TestCase):
                 told = read_saved(drawn.table, graph_text(graph).encode("ascii"))
                 numbers.add(told.number if isinstance(told, Refusal) else 0)
             self.assertIn(13, numbers, spoil.__name__)
-
-
-if __name__ == "__main__":
-    unittest.main()

@@ -3,17 +3,21 @@
 It is written from document 01, and shares nothing with the crates. `reread_listing` gives what the program reread
 prints for a table and a saved track behind it:
 
-    python3 tests/saved.py < input
+    python3 tests/independent/saved.py < input
 """
 
+import pathlib
 import sys
 from typing import NamedTuple
 
-from independent import (
+if __name__ == "__main__":  # as a command, too, packages are found from the repository
+    sys.path[0] = str(pathlib.Path(__file__).resolve().parents[2])
+
+from tests.independent.frames import (
     EXTERNAL_CHOICE, PARALLEL, PREFIX, Place, Refusal, cut_input, event_place, frame_of, judge_table, left_hand_side,
     number_of, split_lines,
 )
-from rules import ARC_ROOM, MEETING_ROOM, NODE_ROOM, node_bytes, refusal_line, text_of
+from tests.independent.rules import ARC_ROOM, MEETING_ROOM, NODE_ROOM, node_bytes, refusal_line, text_of
 
 PATH_ROOM = 64
 REREAD_ROOM = 262_144  # bytes of input that the program reread takes

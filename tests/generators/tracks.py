@@ -4,20 +4,26 @@ A track is the saved text of a run, or a graph of the reader's shape that no run
 shape, one number or some characters of it are spoilt. families.py says how an input follows from a seed and an
 index.
 
-    python3 tests/tracks.py [--seed S] [--index I] [--count N]
+    python3 tests/generators/tracks.py [--seed S] [--index I] [--count N]
 """
 
+import pathlib
+import sys
 from typing import NamedTuple
 
-import generate as judged
-import runs
-from families import Families, command
-from generate import damage_by_foreign, damage_character, damage_line
-from independent import (
+if __name__ == "__main__":  # as a command, too, packages are found from the repository
+    sys.path[0] = str(pathlib.Path(__file__).resolve().parents[2])
+
+from tests.generators import runs, tables
+from tests.generators.families import Families, command
+from tests.generators.tables import damage_by_foreign, damage_character, damage_line
+from tests.independent.frames import (
     EXTERNAL_CHOICE, PARALLEL, PREFIX, Place, Refusal, Table, cut_input, event_place, judge_table, left_hand_side,
 )
-from rules import ARC_ROOM, MEETING_ROOM, NODE_ROOM, Run, run_listing, saved_text
-from saved import Graph, graph_text, is_under, literals, order_of, read_lines, reread_listing, reread_outcome
+from tests.independent.rules import ARC_ROOM, MEETING_ROOM, NODE_ROOM, Run, run_listing, saved_text
+from tests.independent.saved import (
+    Graph, graph_text, is_under, literals, order_of, read_lines, reread_listing, reread_outcome,
+)
 
 
 class Drawn(NamedTuple):
@@ -75,7 +81,7 @@ def some_meetings(rng, places, there, chance):
 
 def made_up(rng, nodes=None):
     """A graph that no run makes: any places, arcs to anywhere, meetings in any number."""
-    text = judged.text_of(runs.some_table(rng, rng.choice((runs.OF_ALL_KINDS, runs.THAT_ENDS, runs.THAT_MEETS))).lines)
+    text = tables.text_of(runs.some_table(rng, rng.choice((runs.OF_ALL_KINDS, runs.THAT_ENDS, runs.THAT_MEETS))).lines)
     table = judge_table(text.encode("latin-1"))
     there = literals(table)
     some = list(there)
@@ -240,7 +246,7 @@ def as_it_is(rng):
 
 def with_a_line_spoilt(rng):
     drawn = some_track(rng)
-    return drawn.text + judged.text_of(damage_line(rng, lines_of(drawn)))
+    return drawn.text + tables.text_of(damage_line(rng, lines_of(drawn)))
 
 
 def with_a_character_spoilt(rng):
@@ -273,7 +279,7 @@ def with_a_count_spoilt(rng):
     room = (NODE_ROOM, ARC_ROOM, MEETING_ROOM)[which]
     counts[which] = rng.choice((counts[which] + 1, max(counts[which] - 1, 0), 0, room, room + 1, 65_535))
     edition = rng.choice((1, 1, 1, 0, 2))
-    return drawn.text + judged.text_of(["30%02x%04x%04x%04x" % (edition, *counts)] + lines[1:])
+    return drawn.text + tables.text_of(["30%02x%04x%04x%04x" % (edition, *counts)] + lines[1:])
 
 
 def with_a_number_out_of_range(rng):
@@ -293,7 +299,7 @@ def with_a_number_out_of_range(rng):
         line = rng.choice((line[:1] + end + line[3:], line[:3] + end, line + b"\0", line[:-1]))
     else:
         line = line + b"\0"
-    return drawn.text + judged.text_of(lines[:at] + [line.hex()] + lines[at + 1 :])
+    return drawn.text + tables.text_of(lines[:at] + [line.hex()] + lines[at + 1 :])
 
 
 # ---- at the rooms
@@ -301,7 +307,7 @@ def with_a_number_out_of_range(rng):
 
 def chain(rng, nodes):
     """A track of so many nodes in a row, over a table of one call."""
-    text = judged.text_of(runs.table_of(runs.call(0), events=0).lines)
+    text = tables.text_of(runs.table_of(runs.call(0), events=0).lines)
     table = judge_table(text.encode("latin-1"))
     places = [left_hand_side(0)] + [Place(0, ())] * (nodes - 1)
     targets = [[number + 1] for number in range(nodes - 1)] + [rng.choice(([], [0], [nodes - 1]))]
@@ -315,7 +321,7 @@ def at_the_room_for_nodes(rng):
 
 def at_the_room_for_meetings(rng):
     """Event nodes of one event, each of which meets as many others as there is room for."""
-    text = judged.text_of(runs.table_of(runs.prefixes((0,), runs.STOPS), events=1).lines)
+    text = tables.text_of(runs.table_of(runs.prefixes((0,), runs.STOPS), events=1).lines)
     table = judge_table(text.encode("latin-1"))
     event = next(event_place(term) for term in table.terms if term.kind == PREFIX)
     places = [left_hand_side(0)] + [event] * 100

@@ -7,10 +7,12 @@ import itertools
 import random
 import unittest
 
-import generate
-from independent import PARALLEL, SEQUENCE, Refusal, judge_table
-from rules import ENDED, LIVE, OMEGA, STUCK, TAU, TICK, Run, Sides, Started, Tree
-from rules import listing, offers, opened, outcome, play_listing, play_outcome, saved_text, status
+from tests.generators import tables
+from tests.independent.frames import PARALLEL, SEQUENCE, Refusal, judge_table
+from tests.independent.rules import (
+    ENDED, LIVE, OMEGA, STUCK, TAU, TICK, Run, Sides, Started, Tree, listing, offers, opened, outcome, play_listing,
+    play_outcome, saved_text, status,
+)
 
 ON_E0, ON_NONE = "1206" + "00" * 7 + "01/", "1206" + "00" * 8 + "/"
 E0_STOP, E1_STOP = "120200/1208/", "120201/1208/"
@@ -222,7 +224,7 @@ def small_runs(count, steps):
     """Runs of small tables, each told where it stands with what it accepts."""
     for seed in range(count):
         rng = random.Random(seed)
-        run = Run(judge_table(generate.text_of(generate.small_table(rng).lines).encode("ascii")))
+        run = Run(judge_table(tables.text_of(tables.small_table(rng).lines).encode("ascii")))
         for _ in range(steps):
             if operators(run.control) > 4:
                 break
@@ -268,7 +270,3 @@ class EveryRun(unittest.TestCase):
                     self.assertEqual(tried(run, second, first), (events[::-1], saved))
                     exchanged += 1
         self.assertTrue(exchanged > 20)
-
-
-if __name__ == "__main__":
-    unittest.main()

@@ -1,11 +1,12 @@
-"""Families of inputs: what the generators generate.py, runs.py, tracks.py and inputs.py have in common.
+"""Families of inputs: what the generators tables.py, runs.py, tracks.py and inputs.py have in common.
 
 An input is a function of a seed and an index. The index goes round a generator's families, each a way to make
 inputs that stands in the round as often as its share says; all else is drawn by lot from the seed and the
 index. Every generator is a command too:
 
-    python3 tests/runs.py --seed 7 --index 12     writes that input to standard output
-    python3 tests/runs.py --seed 7 --count 2000   tells how often each family meets each outcome, and its cost
+    python3 tests/generators/runs.py --seed 7 --index 12     writes that input to standard output
+    python3 tests/generators/runs.py --seed 7 --count 2000   tells how often each family meets each outcome,
+                                                             and its cost
 """
 
 import argparse

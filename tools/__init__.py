@@ -1,0 +1,1 @@
+"""Tools around the programs: running one, and telling a listing in words."""
