@@ -113,7 +113,7 @@ def pieces_of(given):
     """The input in pieces of odd sizes, most of which end within a line."""
     ends = itertools.takewhile(lambda end: end < len(given), itertools.accumulate(itertools.cycle(PIECE_BYTES)))
     cuts = [0, *ends, len(given)]
-    return [given[start:end] for start, end in itertools.pairwise(cuts)]
+    return [given[start:end] for start, end in zip(cuts, cuts[1:])]
 
 
 def is_different(started, name):

@@ -19,7 +19,7 @@ import pathlib
 import sys
 import tempfile
 import time
-from typing import Callable, NamedTuple
+from typing import Callable, NamedTuple, Optional
 
 if __name__ == "__main__":  # as a command, too, packages are found from the repository
     sys.path[0] = str(pathlib.Path(__file__).resolve().parents[2])
@@ -63,7 +63,7 @@ SUBJECTS = {
 class Compared(NamedTuple):
     index: int
     outcome: str
-    difference: Answer | None  # the program's answer where it is another one
+    difference: Optional[Answer]  # the program's answer where it is another one
 
 
 def compare(program, started, seed, index):
@@ -101,7 +101,7 @@ def compare_all(program, started, seed, first, count):
             if compared.difference is not None:
                 return outcomes, compared
             outcomes[compared.outcome] += 1
-            progress.tell(outcomes.total(), compared.index)
+            progress.tell(sum(outcomes.values()), compared.index)
     return outcomes, None
 
 
@@ -160,8 +160,8 @@ def run(program, seed, first, count):
     if different is not None:
         tell_difference(program, seed, different)
         return 1
-    counts, seconds = told_counts(outcomes), time.monotonic() - began
-    print(f"{program}: {outcomes.total()} inputs, seed {seed}, no difference: {counts}; {seconds:.1f} s")
+    compared, counts, seconds = sum(outcomes.values()), told_counts(outcomes), time.monotonic() - began
+    print(f"{program}: {compared} inputs, seed {seed}, no difference: {counts}; {seconds:.1f} s")
     return 0
 
 

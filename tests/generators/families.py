@@ -68,5 +68,5 @@ def command(description, families, outcome_of):
         return
     met, seconds = measure(families, chosen.seed, chosen.count, outcome_of)
     for name, outcomes in met.items():
-        each = 1_000 * seconds[name] / outcomes.total()
-        print(f"{name}, {outcomes.total()} of {each:.1f} ms: {told_counts(outcomes)}")
+        inputs = sum(outcomes.values())
+        print(f"{name}, {inputs} of {1_000 * seconds[name] / inputs:.1f} ms: {told_counts(outcomes)}")
