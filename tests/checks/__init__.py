@@ -1,1 +1,1 @@
-"""The checks: the tests of the Python side, the kept cases, and the programs against the independent program."""
+"""The checks: the tests of the Python side, the kept cases, the comparison, and the gate that runs them all."""

@@ -24,6 +24,7 @@ COMMANDS = (  # words that need no built program; standard input is empty
     *(f"tests/generators/{name}.py --seed 7 --index 12" for name in GENERATORS),
     "tests/checks/cases.py --help",
     "tests/checks/differential.py --help",
+    "tests/checks/gate.py --help",
 )
 PATH = re.compile(r"(?<![\w/])(?:tests|tools)/[\w/.-]*\w")
 

@@ -1,0 +1,137 @@
+"""The gate: every test, and last of all the line in which the toolchain tells that all has passed.
+
+    python3 tests/checks/gate.py
+
+It holds the layout of the sources and runs the unit tests; then `rt ci`, once, which proves every crate from
+nothing and builds target/bin; and then the kept cases and the comparisons on what that built. All output is shown
+as it comes, but for the last line of `rt ci`, 'N passed, 0 failed': that is held back until everything has passed,
+and stands last. The first command that fails ends the run with status 1, and the last line tells which it was. An
+interrupt ends the command that is under way.
+"""
+
+import argparse
+import contextlib
+import os
+import pathlib
+import re
+import signal
+import subprocess
+import sys
+import time
+
+REPOSITORY = pathlib.Path(__file__).resolve().parents[2]
+RT_CI = ("rt", "ci")
+ALL_PASSED = re.compile(rb"[1-9][0-9]* passed, 0 failed\n")
+SECONDS_TO_TIDY_UP = 1
+FAILURE, INTERRUPTION = 1, 130  # exit statuses
+
+
+def comparison(program, count):
+    """The command, as the tuple of its words."""
+    return ("python3", "tests/checks/differential.py", "--program", program, "--count", str(count))
+
+
+FIRST = (("rt", "fmt", "--check"), ("python3", "-m", "unittest", "discover", "-s", "tests/checks", "-t", "."))
+ON_WHAT_WAS_BUILT = (
+    ("python3", "tests/checks/cases.py"),
+    comparison("track", 5_000),
+    comparison("judge", 1_000),
+    comparison("play", 1_000),
+    comparison("reread", 1_500),
+)
+
+
+# ---- commands
+
+
+class Failed(Exception):
+    """Which command failed, and how."""
+
+
+def show(text):
+    sys.stdout.buffer.write(text)
+    sys.stdout.buffer.flush()
+
+
+def end(child):
+    """Ends a command with all that it has started; asks it first, so that it can tidy up."""
+    if child.returncode is not None:
+        return
+    for stopping in (signal.SIGINT, signal.SIGTERM, signal.SIGHUP):
+        signal.signal(stopping, signal.SIG_IGN)  # nothing stops the ending
+    os.kill(child.pid, signal.SIGINT)
+    for surely in (signal.SIGTERM, signal.SIGKILL):  # what a shell runs beside itself ignores an interrupt
+        time.sleep(SECONDS_TO_TIDY_UP)
+        os.killpg(child.pid, surely)
+    child.wait()
+
+
+@contextlib.contextmanager
+def started(words, **streams):
+    """A command under way, in a process group of its own, which is ended where the block is left by an exception.
+
+    At the block's end it has to have ended well.
+    """
+    try:
+        child = subprocess.Popen(words, cwd=REPOSITORY, stdin=subprocess.DEVNULL, start_new_session=True, **streams)
+    except OSError as error:
+        raise Failed(f"{' '.join(words)}: {error}") from error
+    try:
+        yield child
+        status = child.wait()
+    except BaseException:
+        end(child)
+        raise
+    if status != 0:
+        raise Failed(f"{' '.join(words)}: status {status}")
+
+
+def run_commands(commands):
+    for words in commands:
+        with started(words):
+            pass
+
+
+def run_rt_ci():
+    """Shows what `rt ci` prints, but for a last line that tells that all has passed; gives that line."""
+    held = b""
+    with started(RT_CI, stdout=subprocess.PIPE, stderr=subprocess.STDOUT) as child:
+        for line in child.stdout:
+            show(held)
+            held = line if ALL_PASSED.fullmatch(line) else b""
+            if not held:
+                show(line)
+    if not held:
+        raise Failed(f"{' '.join(RT_CI)}: its last line is not 'N passed, 0 failed'")
+    return held
+
+
+# ---- the run
+
+
+def run(first, on_what_was_built):
+    """The whole run; gives the exit status."""
+    try:
+        run_commands(first)
+        last_line = run_rt_ci()
+        run_commands(on_what_was_built)
+    except Failed as failed:
+        show(f"FAILED: {failed}\n".encode())
+        return FAILURE
+    except KeyboardInterrupt:
+        show(b"FAILED: interrupted\n")
+        return INTERRUPTION
+    show(last_line)
+    return 0
+
+
+def main():
+    argparse.ArgumentParser(description="every test; ./test calls it").parse_args()
+    for stopping in (signal.SIGTERM, signal.SIGHUP):
+        if signal.getsignal(stopping) is not signal.SIG_IGN:
+            signal.signal(stopping, signal.default_int_handler)
+    return run(FIRST, ON_WHAT_WAS_BUILT)
+
+
+if __name__ == "__main__":
+    sys.exit(main())
