@@ -5,8 +5,8 @@
 It holds the layout of the sources and runs the unit tests; then `rt ci`, once, which proves every crate from
 nothing and builds target/bin; and then the kept cases and the comparisons on what that built. All output is shown
 as it comes, but for the last line of `rt ci`, 'N passed, 0 failed': that is held back until everything has passed,
-and stands last. The first command that fails ends the run with status 1, and the last line tells which it was. An
-interrupt ends the command that is under way.
+and stands last, behind the seconds that each part took. The first command that fails ends the run with status 1, and
+the last line tells which it was. An interrupt ends the command that is under way.
 """
 
 import argparse
@@ -18,6 +18,7 @@ import signal
 import subprocess
 import sys
 import time
+from typing import NamedTuple
 
 REPOSITORY = pathlib.Path(__file__).resolve().parents[2]
 RT_CI = ("rt", "ci")
@@ -26,18 +27,32 @@ SECONDS_TO_TIDY_UP = 1
 FAILURE, INTERRUPTION = 1, 130  # exit statuses
 
 
+class Part(NamedTuple):
+    """Commands, each the tuple of its words, whose seconds are told together."""
+
+    name: str
+    commands: tuple
+
+
 def comparison(program, count):
-    """The command, as the tuple of its words."""
     return ("python3", "tests/checks/differential.py", "--program", program, "--count", str(count))
 
 
-FIRST = (("rt", "fmt", "--check"), ("python3", "-m", "unittest", "discover", "-s", "tests/checks", "-t", "."))
+FIRST = Part(
+    "format and unit tests",
+    (("rt", "fmt", "--check"), ("python3", "-m", "unittest", "discover", "-s", "tests/checks", "-t", ".")),
+)
 ON_WHAT_WAS_BUILT = (
-    ("python3", "tests/checks/cases.py"),
-    comparison("track", 5_000),
-    comparison("judge", 1_000),
-    comparison("play", 1_000),
-    comparison("reread", 1_500),
+    Part("cases", (("python3", "tests/checks/cases.py"),)),
+    Part(
+        "comparisons",
+        (
+            comparison("track", 5_000),
+            comparison("judge", 1_000),
+            comparison("play", 1_000),
+            comparison("reread", 1_500),
+        ),
+    ),
 )
 
 
@@ -86,8 +101,8 @@ def started(words, **streams):
         raise Failed(f"{' '.join(words)}: status {status}")
 
 
-def run_commands(commands):
-    for words in commands:
+def run_part(part):
+    for words in part.commands:
         with started(words):
             pass
 
@@ -109,19 +124,43 @@ def run_rt_ci():
 # ---- the run
 
 
+def told_seconds(seconds):
+    rows = [*seconds.items(), ("all", sum(seconds.values()))]
+    return "".join(f"{name:<21} {taken:>6.0f} s\n" for name, taken in rows)
+
+
+@contextlib.contextmanager
+def timed(seconds, name):
+    """Adds the seconds that the block took."""
+    began = time.monotonic()
+    yield
+    seconds[name] = time.monotonic() - began
+
+
+def run_all(first, on_what_was_built):
+    """Everything in order; gives the last line of `rt ci`, and the seconds by part."""
+    seconds = {}
+    with timed(seconds, first.name):
+        run_part(first)
+    with timed(seconds, "rt ci"):
+        last_line = run_rt_ci()
+    for part in on_what_was_built:
+        with timed(seconds, part.name):
+            run_part(part)
+    return last_line, seconds
+
+
 def run(first, on_what_was_built):
     """The whole run; gives the exit status."""
     try:
-        run_commands(first)
-        last_line = run_rt_ci()
-        run_commands(on_what_was_built)
+        last_line, seconds = run_all(first, on_what_was_built)
     except Failed as failed:
         show(f"FAILED: {failed}\n".encode())
         return FAILURE
     except KeyboardInterrupt:
         show(b"FAILED: interrupted\n")
         return INTERRUPTION
-    show(last_line)
+    show(told_seconds(seconds).encode() + last_line)
     return 0
 
 

@@ -12,10 +12,10 @@ from tools.programs import REPOSITORY
 
 RUN = """
 import signal, sys
-from tests.checks.gate import run
+from tests.checks.gate import Part, run
 signal.signal(signal.SIGINT, signal.default_int_handler)
-first, later, last = (("/bin/sh", "-c", words) for words in sys.argv[1:])
-sys.exit(run((first,), (later, last)))
+first, later, last = (Part(name, (("/bin/sh", "-c", words),)) for name, words in zip(("x", "y", "z"), sys.argv[1:]))
+sys.exit(run(first, (later, last)))
 """
 PASSED = "12 passed, 0 failed"
 NOT_TOLD = "FAILED: rt ci: its last line is not 'N passed, 0 failed'"
@@ -49,7 +49,15 @@ class Gate(unittest.TestCase):
 class Outcomes(Gate):
     def test_all_passes(self):
         lines, status = self.outcome(f"echo a proved; echo b proved; echo {PASSED}")
-        self.assertEqual((lines, status), (["first", "a proved", "b proved", "later", "last", PASSED], 0))
+        self.assertEqual((lines[-1], status), (PASSED, 0))
+        self.assertEqual(lines[:5], ["first", "a proved", "b proved", "later", "last"])
+
+    def test_where_the_seconds_went(self):
+        lines, _ = self.outcome(f"/bin/sleep 0.6; echo {PASSED}")
+        table = [line.rsplit(None, 2) for line in lines[3:-1]]
+        self.assertEqual([name for name, *_ in table], ["x", "rt ci", "y", "z", "all"])
+        self.assertEqual({unit for *_, unit in table}, {"s"})
+        self.assertTrue(1 <= int(table[1][1]) <= int(table[-1][1]))
 
     def test_what_comes_first_fails(self):
         failed = ["ill", "FAILED: /bin/sh -c echo ill; exit 3: status 3"]
