@@ -9,7 +9,10 @@ types that they take from src/ by `declared` are told below it.
 import pathlib
 import sys
 
-import sources
+if __name__ == "__main__":  # as a command, too, packages are found from the repository
+    sys.path[0] = str(pathlib.Path(__file__).resolve().parents[1])
+
+from tools import sources
 
 ROOT = pathlib.Path(__file__).resolve().parent.parent
 

@@ -19,7 +19,10 @@ import re
 import sys
 from collections import defaultdict, namedtuple
 
-import sources
+if __name__ == "__main__":  # as a command, too, packages are found from the repository
+    sys.path[0] = str(pathlib.Path(__file__).resolve().parents[1])
+
+from tools import sources
 
 Finding = namedtuple("Finding", "kind file line name")
 Export = namedtuple("Export", "crate name file line target")  # the target is the (file, name) of the item
@@ -256,8 +259,12 @@ class Items:
     def unused_items(self):
         for file, rattle in self.tree.rattle.items():
             for item in rattle.items.values():
-                if not self.users[file, item.name] and not item.entry:
+                if not self.users[file, item.name] and not item.entry and not self.is_door(file, item.name):
                     yield Finding(KINDS[item.kind], file, item.line, item.name)
+
+    def is_door(self, file, name):
+        """Whether documents name a function as its crate's, so that it is there for callers outside."""
+        return f"{sources.crate_of(file)}::{name}" in self.tree.documented
 
     def unneeded_uses(self):
         for file, rattle in self.tree.rattle.items():

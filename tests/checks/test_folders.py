@@ -10,7 +10,7 @@ import unittest
 from tools.programs import REPOSITORY
 
 MAY_IMPORT = {  # of the repository
-    "tools": (),
+    "tools": ("tools.",),
     "tests/independent": ("tests.independent.",),
     "tests/generators": ("tests.independent.", "tests.generators."),
     "tests/checks": ("tests.independent.", "tests.generators.", "tests.checks.", "tools."),

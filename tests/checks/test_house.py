@@ -7,19 +7,16 @@ and then holds the repository. The tools that read the sources, unused.py and cl
 
 import pathlib
 import re
-import sys
 import tempfile
 import unittest
 from collections import defaultdict
 
 ROOT = next(path for path in pathlib.Path(__file__).resolve().parents if (path / "crates.txt").is_file())
 
-sys.path.insert(0, str(ROOT / "tools"))
-import closure
-import sources
-import unused
+from tools import closure, sources, unused
 
 HEADINGS = ["frames", "rules", "saving", "programs"]
+HANDED_ABOUT = {"play": {"rules"}}  # an event, in what a script's line comes to
 LOGIC_LIBRARIES = ("Prim", "mathlib", "lib")
 FRONT_PAGES = {"Lib.antt": "", "words.antt": "words/", "code.antt": "code/"}  # of specs/, and what each is of
 KINDS = {"": "meaning", "words": "words", "code": "code"}  # of definitions, by their folder below specs/
@@ -61,8 +58,6 @@ def misled_imports(root):
         for module in sorted(sources.modules_of(sources.text_of(root, file))):
             if kind == "meaning" and not is_meaning(module):
                 yield f"{file} is meaning and imports {module}"
-            if kind == "words" and re.search(r"\.specs\.code(\.|$)", module):
-                yield f"{file} is words and imports {module}"
 
 
 def is_meaning(module):
@@ -126,12 +121,18 @@ def crates_in_paths(rattle):
     return {path[0] for path in paths if len(path) > 1} - set(rattle.modules)
 
 
+def with_it(crate, used):
+    """What a crate names with what it uses: the C library below `io`, and what declares a type that it only hands about."""
+    return ({"libc"} if "io" in used else set()) | HANDED_ABOUT.get(crate, set())
+
+
 def misnamed_dependencies(root):
     """What crates.txt names of a crate that it does not use, and what it uses and crates.txt does not name."""
     for _, crate, named in listed_crates(root):
         used = used_crates(root, crate)
-        if named - set(used):
-            yield f"{crate} names {' '.join(sorted(named - set(used)))}, and uses none of it directly"
+        unused_names = named - set(used) - with_it(crate, used)
+        if unused_names:
+            yield f"{crate} names {' '.join(sorted(unused_names))}, and uses none of it directly"
         for name in sorted(set(used) - named):
             yield f"{crate} does not name {name}, and uses it in {used[name]}"
 
@@ -285,11 +286,8 @@ class Definitions(MadeUp):
     def test_comments_do_not_count(self):
         self.assertEqual(self.misled("a/specs/Table.antt", "-- use Rattle.b.specs.code.Take.{take}"), [])
 
-    def test_words_import_no_code(self):
-        self.assertEqual(self.misled("a/specs/words/Held.antt", "use Rattle.b.specs.words.Kept.{kept}"), [])
-        self.assertEqual(len(self.misled("a/specs/words/Held.antt", "use Rattle.b.specs.code.Take.{take}")), 1)
-
-    def test_code_imports_all(self):
+    def test_words_and_code_import_all(self):
+        self.assertEqual(self.misled("a/specs/words/Held.antt", "use Rattle.b.specs.code.Take.{take}"), [])
         self.assertEqual(self.misled("a/specs/code/Take.antt", "use Rattle.b.specs.code.Put.{put}"), [])
 
     def test_three_kinds_and_front_pages(self):
@@ -345,9 +343,8 @@ use Rattle.tables.proofs.check.Tie as tie
         self.assertEqual(self.faults(misnamed_dependencies, "lines:", "sets:", "tables: io lines"), [])
 
     def test_too_many_and_too_few(self):
-        self.assertEqual(self.faults(misnamed_dependencies, "lines: sets", "sets:", "tables: lines libc"), [
+        self.assertEqual(self.faults(misnamed_dependencies, "lines: sets", "sets:", "tables: lines"), [
             "lines names sets, and uses none of it directly",
-            "tables names libc, and uses none of it directly",
             "tables does not name io, and uses it in crates/tables/src/sets.rt",
         ])
 
@@ -698,7 +695,7 @@ class House(unittest.TestCase):
     def test_meaning_rests_on_meaning(self):
         self.hold(
             misled_imports,
-            "Let meaning import meaning, declared types, Prim, mathlib and lib alone, and words no code: move the "
+            "Let meaning import meaning, declared types, Prim, mathlib and lib alone: move the "
             "definition that is imported to the kind that it is, or that which imports it:",
         )
 
@@ -724,6 +721,3 @@ class House(unittest.TestCase):
     def test_front_pages_are_whole(self):
         self.hold(missing_on_front_pages, "Declare each file on its front page, and tell in its comment what it has:")
 
-
-if __name__ == "__main__":
-    unittest.main()
