@@ -137,6 +137,16 @@ def misnamed_dependencies(root):
             yield f"{crate} does not name {name}, and uses it in {used[name]}"
 
 
+# ---- what nothing uses
+
+
+def needless(root):
+    """What unused.py finds, but for what is only wider than needed."""
+    for finding in unused.findings(root):
+        if finding.kind != "wider":
+            yield f"{finding.file}:{finding.line} {finding.kind} {finding.name}"
+
+
 # ---- constants
 
 
@@ -717,6 +727,9 @@ class House(unittest.TestCase):
             "Name each in docs/DOORS.md as `crate::function`, or as `function` in a row or sentence that names its "
             "crate; or let the crate not export it:",
         )
+
+    def test_nothing_is_unused(self):
+        self.hold(needless, "Take it away, or name it in docs/ as the door or the theorem that it is:")
 
     def test_front_pages_are_whole(self):
         self.hold(missing_on_front_pages, "Declare each file on its front page, and tell in its comment what it has:")
