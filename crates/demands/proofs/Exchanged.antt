@@ -19,7 +19,7 @@ use Rattle.rules.specs.Process.{Address, cells}
 use Rattle.rules.specs.Run.{State, cell-room, node-room, arc-room, meeting-room, over-room, accepted, answer}
 use Rattle.rules.specs.Run as Run
 use Rattle.plans.specs.words.Layout.{layout}
-use Rattle.runs.specs.words.Held.{Table, addressed, told, behind}
+use Rattle.runs.specs.words.Held.{Table, addressed, told, behind, Words}
 use Rattle.rules.specs.Addressed.{answered}
 use Rattle.runs.proofs.Tabled.{checked-table}
 use Rattle.runs.specs.declared.Answer.{Answer}
@@ -28,8 +28,9 @@ use Rattle.runs.specs.declared.Shown.{Shown}
 use Rattle.exchange.specs.Opposite.{Opposite}
 use Rattle.exchange.specs.Orders.{BothOrders}
 use Rattle.exchange.proofs.Exchange.{exchange}
-use Rattle.saving.specs.words.Kept.{Table-of}
-use Rattle.demands.specs.words.Words.{Words, Planned, HoldsRun, Steps}
+use Rattle.columns.specs.words.Columns.{all-columns}
+use Rattle.tables.specs.words.Columns.{Table-of}
+use Rattle.demands.specs.words.Words.{Planned, HoldsRun, Steps}
 use Rattle.demands.proofs.SavedBytes.{save-leaves}
 use Rattle.demands.specs.words.Behind.{SameBehind, BothRefused}
 
@@ -57,7 +58,7 @@ room-numbers s =
     go false false false false h = absurd (h refl)
 
 -- runs of one table, in the columns that its check left and by the plan that is laid out from them
-module _ {text ks os xs rs p x : List ℕ} {t : Sofar} (table : Table-of text ks os xs rs t)
+module _ {text ks ps os xs rs p x : List ℕ} {t : Sofar} (table : Table-of text (all-columns ks ps os xs rs) t)
     (planned : Planned p x t) where
   abbrev ts : List Term
   ts = definitions-of t

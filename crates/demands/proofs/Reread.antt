@@ -13,9 +13,9 @@ use lib.Dec.{ltb, eqb}
 use borrow.Author.Tests.{eqb-false, lt-ltb}
 use Rattle.lines.proofs.Digits.{both}
 use Rattle.tables.specs.Table.{Sofar, accepted, judged}
-use Rattle.tables.specs.words.Columns.{kinds, owners, afters, roots}
+use Rattle.tables.specs.words.Columns.{kinds, owners, afters, roots, Table-of}
 use Rattle.terms.specs.Term.{Term, definitions-of}
-use Rattle.columns.specs.words.Columns.{Columns, columns}
+use Rattle.columns.specs.words.Columns.{Columns, columns, all-columns, read-columns}
 use Rattle.rules.specs.Track.{Label, lookup}
 use Rattle.rules.specs.Run.{State, arc-room, meeting-room}
 use Rattle.control.specs.words.Words.{reference-room, track-words}
@@ -36,16 +36,16 @@ use Rattle.walks.proofs.Telling.{Telling, mark-told, labelled-told}
 use Rattle.links.proofs.Listed.{arcs-back, meetings-back}
 use Rattle.framing.specs.words.Told.{place-by, labels-told, graph-told}
 use Rattle.writing.specs.declared.Saved.{Saved}
-use Rattle.saving.specs.words.Kept as Saving
 use Rattle.saving.proofs.NumberedTold.{mark-place}
 use Rattle.finding.specs.code.Found.{marks-of}
 use Rattle.reading.specs.code.Outcome.{answer, labels-left, graph-left}
-use Rattle.reading.specs.words.Kept.{Table-of, Reads}
+use Rattle.reading.specs.words.Kept.{Reads}
 use Rattle.reading.specs.declared.Read.{Read}
 use Rattle.reading.specs.declared.Read.the-variants.{Accepted, Refused}
 use Rattle.reading.proofs.MarksTold.{marks-telling}
 use Rattle.reading.proofs.RuleLaws.{labels-below}
-use Rattle.demands.specs.words.Words.{Words, HoldsRun, SavesWords, Writes, told-by}
+use Rattle.runs.specs.words.Held.{Words}
+use Rattle.demands.specs.words.Words.{HoldsRun, SavesWords, Writes, told-by}
 use Rattle.demands.specs.words.Bytes.{bytes-of}
 use Rattle.demands.proofs.SavedBytes.{written-bytes, checked-shallow, checked-count, save-leaves}
 
@@ -155,25 +155,25 @@ accepted-says (says g) n e = (g, refl, let same : n ≡ counts-of g = cc in same
 accepted-says (refused m k) n e = let z : _≡_ {A = ℕ} 0 1 = cc in absurd (omega arith)
 
 -- a table's columns, as its check left them
-module _ {text ks os ps xs rs : List ℕ} {d : ℕ} {t : Sofar} (table : Table-of text d ks ps xs rs t)
-    (columns-are : Saving.Table-of text ks os xs rs t) where
+module _ {text ks ps os xs rs : List ℕ} {d : ℕ} {t : Sofar} (table : Table-of text (all-columns ks ps os xs rs) t)
+    (many : d ≡ length (definitions-of t)) where
   -- what reading leaves where a text says a graph tells it
   left-tell : (lines : List ℕ) (g : Graph) → read (definitions-of t) lines ≡ says g → (labels graph : List ℕ)
       → told-by ks os xs rs (labels-left ks ps xs rs (says g) labels) (graph-left (says g) graph) (counts-of g) ≡ g
   unfolding labels-left graph-left
   left-tell lines g is labels graph =
-      rw (columns-are .kinds-are, columns-are .owners-are, columns-are .after-are, columns-are .roots-are)
+      rw (table .kinds-are, table .owners-are, table .after-are, table .roots-are)
       (columns-tell text t (table .checked) lines g is)
 
   -- an outcome of reading
   module _ (lines labels graph labels′ graph′ : List ℕ) (r : Read)
-      (reads : Reads d ks ps xs rs lines labels graph r labels′ graph′) where
+      (reads : Reads d (read-columns ks ps xs rs) lines labels graph r labels′ graph′) where
     -- an accepted text says a graph, and the columns tell it
     pub accepted-tells : (n : Counts) → r ≡ Accepted n
         → (read (definitions-of t) lines ≡ says (told-by ks os xs rs labels′ graph′ n))
         × (n ≡ counts-of (told-by ks os xs rs labels′ graph′ n))
     accepted-tells n is =
-        let (told, stand, linked) = reads text t table in
+        let (told, stand, linked) = reads text os t table many in
         let (g, says-g, counts) = accepted-says _ n (sym told ∙ is) in
         go g stand linked says-g counts
       where
@@ -191,7 +191,7 @@ module _ {text ks os ps xs rs : List ℕ} {d : ℕ} {t : Sofar} (table : Table-o
     pub refused-writes-nothing : (n k : ℕ) → r ≡ Refused n k → (labels′ ≡ labels) × (graph′ ≡ graph)
     unfolding answer labels-left graph-left
     refused-writes-nothing n k is =
-        let (told, stand, linked) = reads text t table in
+        let (told, stand, linked) = reads text os t table many in
         go (read (definitions-of t) lines) (sym is ∙ told) stand linked
       where
         go : (o : Parsed) → Refused n k ≡ answer o → labels′ ≡ labels-left ks ps xs rs o labels
@@ -215,17 +215,17 @@ module _ {text ks os ps xs rs : List ℕ} {d : ℕ} {t : Sofar} (table : Table-o
   pub reads-back : {p x : List ℕ} (v : Words) (s : State) → HoldsRun p x t v s
       → (slice slice′ : List ℕ) (r : Saved) → SavesWords ks os xs rs v slice r slice′
       → length (saved (graph-of s)) ≤ length slice → (labels graph labels′ graph′ : List ℕ) (r′ : Read)
-      → Reads d ks ps xs rs (bytes-of r slice′) labels graph r′ labels′ graph′
+      → Reads d (read-columns ks ps xs rs) (bytes-of r slice′) labels graph r′ labels′ graph′
       → (r′ ≡ Accepted (counts-of (canonical (graph-of s))))
       × (told-by ks os xs rs labels′ graph′ (counts-of (canonical (graph-of s))) ≡ canonical (graph-of s))
   unfolding answer
   reads-back v s held slice slice′ r save long labels graph labels′ graph′ r′ reads =
-      let bytes = save-leaves columns-are v s held slice slice′ r save long in
+      let bytes = save-leaves table v s held slice slice′ r save long in
       let (some-first, few) = checked-count text t (table .checked) in
       let says-it : read (definitions-of t) (bytes-of r slice′) ≡ says (canonical (graph-of s)) =
       ap (read (definitions-of t)) bytes
       ∙ saved-reads-back (definitions-of t) (held .reached) (checked-shallow text t (table .checked)) some-first few in
-      let (told, stand, linked) = reads text t table in (
+      let (told, stand, linked) = reads text os t table many in (
         told ∙ ap answer says-it,
         rw (stand, linked, says-it) (left-tell (bytes-of r slice′) _ says-it labels graph),
       )

@@ -21,8 +21,10 @@ use Rattle.graphs.proofs.Exactly.{saved-equal-exactly}
 use Rattle.writing.specs.words.Slice.{answer, left}
 use Rattle.writing.specs.declared.Saved.{Saved}
 use Rattle.writing.specs.declared.Saved.the-variants.{Short}
-use Rattle.saving.specs.words.Kept.{Table-of}
-use Rattle.demands.specs.words.Words.{Words, HoldsRun, SavesWords}
+use Rattle.columns.specs.words.Columns.{all-columns}
+use Rattle.tables.specs.words.Columns.{Table-of}
+use Rattle.runs.specs.words.Held.{Words}
+use Rattle.demands.specs.words.Words.{HoldsRun, SavesWords}
 use Rattle.demands.specs.words.Bytes.{bytes-of}
 
 -- a text that is written into a slice long enough stands in front of it
@@ -48,14 +50,14 @@ checked-count text t q =
     )
 
 -- runs of one table, in the columns that its check left
-module _ {text ks os xs rs : List ℕ} {t : Sofar} (table : Table-of text ks os xs rs t) where
+module _ {text ks ps os xs rs : List ℕ} {t : Sofar} (table : Table-of text (all-columns ks ps os xs rs) t) where
   -- an outcome of a save of words that hold a run
   module _ {p x : List ℕ} (v : Words) (s : State) (held : HoldsRun p x t v s) (slice slice′ : List ℕ) (r : Saved)
       (save : SavesWords ks os xs rs v slice r slice′) where
     -- into a slice long enough, it leaves the track's saved text
     pub save-leaves : length (saved (graph-of s)) ≤ length slice → bytes-of r slice′ ≡ saved (graph-of s)
     save-leaves fits =
-        let (told, stands) = save text p x t s table held in
+        let (told, stands) = save text ps p x t s table held in
         ap₂ bytes-of told stands ∙ written-bytes (saved (graph-of s)) slice fits
 
     -- "A refused table, save or read writes nothing": into a shorter one it writes nothing, and tells the length
@@ -63,7 +65,7 @@ module _ {text ks os xs rs : List ℕ} {t : Sofar} (table : Table-of text ks os 
         → (r ≡ Short (length (saved (graph-of s)))) × (slice′ ≡ slice)
     unfolding answer left
     short-save short =
-        let (told, stands) = save text p x t s table held in
+        let (told, stands) = save text ps p x t s table held in
         let over = lt-leb (length (saved (graph-of s))) (length slice) short in
         (rw over at told, rw over at stands)
 

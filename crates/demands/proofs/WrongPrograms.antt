@@ -14,13 +14,13 @@ use Rattle.rules.specs.Run.{State}
 use Rattle.rules.specs.Run as Run
 use Rattle.rules.proofs.Drawing.{accepted-draws}
 use Rattle.plans.specs.words.Layout.{layout}
-use Rattle.runs.specs.words.Held.{Table, addressed, told, behind}
+use Rattle.runs.specs.words.Held.{Table, addressed, told, behind, Words}
 use Rattle.rules.specs.Addressed.{answered}
 use Rattle.runs.specs.declared.Answer.{Answer}
 use Rattle.runs.specs.declared.Answer.the-variants.{Accepted, Refused}
 use Rattle.runs.specs.declared.Shown.{Shown}
 use Rattle.runs.proofs.Once.{held-once}
-use Rattle.demands.specs.words.Words.{Words, HoldsRun}
+use Rattle.demands.specs.words.Words.{HoldsRun}
 use Rattle.demands.specs.Ahead.{Ahead, next, further}
 use Rattle.demands.specs.words.Accepts.{Accepts}
 

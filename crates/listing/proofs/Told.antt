@@ -72,8 +72,15 @@ module _ (table : List ℕ) (t : Sofar) (q : judged table ≡ accepted t) where
     -- and their text is its track's
     track-told : text-of (kinds t) (owners t) (afters t) (roots t) w g c ≡ saved (graph-of s)
     track-told =
-        saves-told table (kinds t) (owners t) (afters t) (roots t) t
-        (record { checked = q; kinds-are = refl; owners-are = refl; after-are = refl; roots-are = refl })
+        saves-told table (kinds t) (payloads t) (owners t) (afters t) (roots t) t
+        (record {
+          checked = q;
+          kinds-are = refl;
+          payloads-are = refl;
+          owners-are = refl;
+          after-are = refl;
+          roots-are = refl;
+        })
         p x w g c s held
 
   -- what is told of lines that have stopped is their listing

@@ -19,7 +19,7 @@ use Rattle.offers.specs.code.Offering.{status}
 use Rattle.rules.specs.declared.Status.{Status}
 use Rattle.rules.specs.declared.Status.the-variants.{Live, Ended, Stuck}
 use Rattle.runs.specs.code.Doors.{fresh-nodes, fresh-track, fresh-counters}
-use Rattle.runs.specs.words.Held.{Begins}
+use Rattle.runs.specs.words.Held.{lent as lent-words, Begins}
 use Rattle.saving.specs.code.Saving.{text-of}
 use Rattle.inputs.specs.Cut.{table-length, table-text}
 use Rattle.inputs.specs.Cut as Cut
@@ -57,7 +57,7 @@ module _ (p x ks os xs rs script : List ℕ) where
 
   -- what the start leaves, and what the steps come to
   module _ {w₀ g₀ c₀ w g c out₀ out₁ : List ℕ} {number line a : ℕ}
-      (starts : (w₀ ≡ fresh-nodes) × ((g₀ ≡ fresh-track) × ((c₀ ≡ fresh-counters) × Begins w₀ g₀ c₀)))
+      (starts : (w₀ ≡ fresh-nodes) × ((g₀ ≡ fresh-track) × ((c₀ ≡ fresh-counters) × Begins (lent-words w₀ g₀ c₀))))
       (steps : StepsPut (from-words p x script w₀ g₀ c₀) w g c out₀ out₁ number line a)
     where
       start-is : from-words p x script w₀ g₀ c₀ ≡ from-start p x script

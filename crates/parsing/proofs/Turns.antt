@@ -1,39 +1,37 @@
--- The work of the line reading a line at a time: no line or a refused one ends it, and one that meets no refusal takes what
--- it says into the graph and leaves what is due behind it. So a part that has read some of its lines reads one more, and the
--- column with it. Assumes nothing.
+-- The line reading a line at a time. Where a line is due and none is found, the work stops with the answer's number; where one
+-- is found, it stops with the number that the bytes meet, or goes on from where the next line begins. So behind some lines of
+-- one kind that are read one more is read, and the column with it. Assumes nothing.
 use Prim.Native.Nat.{ℕ, suc, _+_, _-_, _*_, _%_, _≤_, _<_}
-use mathlib.Core.Path.{_≡_, refl, sym, ap, _∙_, subst}
+use mathlib.Core.Path.{_≡_, refl, sym, ap, _∙_}
 use mathlib.Core.Bool.{Bool, true, false, _&&_, not}
-use mathlib.Core.List.{List, [], _∷_, _++_}
-use mathlib.Core.Option.{none, some}
+use mathlib.Core.List.{List, [], _∷_, _++_, append-assoc, append-nil}
+use mathlib.Core.Option.{some}
 use native.Mathlib.Omega.{arith}
 use native.Mathlib.Nat.{add-zero}
-use lib.ListN.{length, drop, replicate, set, length-append}
+use lib.ListN.{length, drop, set, length-append, length-take, length-drop}
 use lib.Dec.{leb, eqb}
 use lib.Seq.{sets}
-use borrow.Author.Tests.{eq-eqb, ne-eqb, leb-true, not-true, not-false}
-use Rattle.lines.specs.Line.{lines, bytes, frame, answer, number-at}
+use borrow.Author.Tests.{eq-eqb, ne-eqb, not-true, not-false}
+use Rattle.lines.specs.Line.{Raw, lines, bytes, characters, answer, number-at}
 use Rattle.lines.specs.Line as line
 use Rattle.lines.specs.code.Characters.{part}
 use Rattle.lines.specs.declared.Line.{Line}
 use Rattle.lines.specs.declared.Line.the-variants.{Found, NoLine, End}
-use Rattle.lines.proofs.Digits.{both}
-use Rattle.lines.proofs.Laws.{IsLine, is-line, not-a-line, none-left}
+use Rattle.lines.proofs.Laws.{IsLine, is-line, not-a-line, none-left, part-some}
 use Rattle.tables.proofs.Kept.{sets-snoc}
 use Rattle.rules.specs.Track.{Label, Pair}
-use Rattle.graphs.specs.Graph.{Graph}
-use Rattle.graphs.specs.Parsed.{Due, a-node, the-last, frame-of, pair-at, refusal, first-refusal, taken}
-use Rattle.graphs.specs.Parsed.{nothing, verdict, heard, Parsed, refused, rest, behind, from-first, opening}
+use Rattle.graphs.specs.Parsed.{opening, frame-of, pair-at, a-node, the-last, refusal, first-refusal, verdict}
 use Rattle.links.specs.words.Columns.{flat}
 use Rattle.finding.specs.code.Found.{mark-of, marks-of}
 use Rattle.finding.specs.words.Node.{label-at}
-use Rattle.parsing.specs.code.Phases.{labelled, due-of, with-pairs, ahead, Begun, NodesRead, NodesTold}
-use Rattle.parsing.specs.code.Phases.{PairsRead, PairsTold, EndTold, LastTold, NoneTold}
+use Rattle.finding.proofs.FoundLaws.{marks-length}
+use Rattle.parsing.specs.code.Phases.{by-frame, line-read, counts, opened, Told, told-stop, told-after}
+use Rattle.parsing.specs.code.Phases.{lines-read, pair-refusal, none-read, last-read}
+use Rattle.parsing.specs.declared.Opened.{Opened}
 use Rattle.parsing.specs.declared.Opened.the-variants.{Track, Fails}
 use Rattle.parsing.specs.declared.Lines.{Lines}
 use Rattle.parsing.specs.declared.Lines.the-variants.{Goes, Stops}
-use Rattle.finding.proofs.FoundLaws.{marks-length}
-use Rattle.parsing.proofs.Tested.{PairCode, node-due, pair-due, last-due}
+use Rattle.parsing.proofs.Dues.{formed-parts, node-due, pair-formed}
 
 -- an answer that is no found line
 abbrev pub NotFound : Line → Type 0
@@ -51,83 +49,205 @@ held-line text at {l} {e} {next} {cs} seen found chars =
     let i = is-line text at e next (sym seen ∙ found) in
     record { end = e; line = i; stands = ap bytes chars ∙ i .stands }
 
--- no line: 1 where there is something else, and 2 where there is nothing
-module _ (text : List ℕ) (at : ℕ) where
-  no-line : (of : List line.Raw → Parsed) (k : ℕ) → of [] ≡ refused 2 k
-      → ((l : line.Raw) (ls : List line.Raw) → frame l ≡ none → of (l ∷ ls) ≡ refused 1 k)
-      → (l : Line) → l ≡ answer at (lines (drop at text)) → NotFound l
-      → of (lines (drop at text)) ≡ refused (line.refusal l) k
-  unfolding line.refusal
-  no-line of k nothing-left broken (Found e n) q h = absurd (h e n refl)
-  no-line of k nothing-left broken NoLine q h =
-      let r = not-a-line text at (sym q) in
-      rw (r .first) (broken (r .line) (r .others) (r .broken))
-  no-line of k nothing-left broken End q h = rw (none-left text at (sym q)) nothing-left
+-- where the line behind a line begins
+past : (text : List ℕ) (at e next : ℕ) → IsLine text at e next → at + length (part text at e) + 1 ≡ next
+past text at e next i =
+    let c = ap length (part-some text at e (omega arith) (omega arith)) in
+    omega (arith, length-take (e - at) (drop at text), length-drop at text)
 
-  module _ (d n : ℕ) (x : Due) (ds : List Due) (g : Graph) (k : ℕ) where
-    abbrev here : Parsed
-    here = rest d n (x ∷ ds) g k (lines (drop at text))
+-- a line that is due
+module _ {A : Type 0} (stops : ℕ → A) (meets : List ℕ → ℕ) (leads : List ℕ → ℕ → List Raw → A)
+    (text : List ℕ) (at : ℕ) where
+  abbrev here : A
+  here = line-read stops meets leads at (lines (drop at text))
 
-    pub none-stops : {l : Line} → l ≡ answer at (lines (drop at text)) → NotFound l → {r : ℕ}
-        → r ≡ line.refusal l → here ≡ refused r k
-    unfolding rest verdict
-    none-stops {l} q h e =
-        rw e (no-line (rest d n (x ∷ ds) g k) k refl (λ l ls b. rw b) l q h)
+  no-line : (l : Line) → l ≡ answer at (lines (drop at text)) → NotFound l → stops (line.refusal l) ≡ here
+  unfolding line.refusal line-read by-frame
+  no-line (Found e n) q h = absurd (h e n refl)
+  no-line NoLine q h = let r = not-a-line text at (sym q) in rw (r .first, r .broken)
+  no-line End q h = rw (none-left text at (sym q))
 
-    module _ {e next : ℕ} (i : IsLine text at e next) {r : ℕ} (met : r ≡ refusal d n x (frame-of (i .held))) where
-      pub line-stops : (r ≡ 0 → ⊥) → here ≡ refused r k
-      unfolding rest verdict
-      line-stops h = rw (i .first, i .framed, ← met) (simp (ne-eqb r 0 h))
+  pub none-stops : {l : Line} → l ≡ answer at (lines (drop at text)) → NotFound l → {x : ℕ} → x ≡ line.refusal l
+      → stops x ≡ here
+  none-stops {l} q h e = ap stops e ∙ no-line l q h
 
-      pub line-goes : r ≡ 0
-          → here ≡ rest d n ds (taken g (frame-of (i .held))) (k + 1) (lines (drop next text))
-      unfolding rest verdict heard
-      line-goes h = rw (i .first, i .framed, ← met) (simp (eq-eqb r 0 h))
+  module _ {next : ℕ} {cs : List ℕ} (i : Held text at next cs) {x : ℕ} (met : x ≡ meets (i .line .held)) where
+    abbrev framed : A
+    framed = by-frame stops meets leads next (lines (drop next text)) (some (i .line .held))
+
+    is-framed : framed ≡ here
+    unfolding line-read characters
+    is-framed = rw (i .line .first, i .line .framed, past text at (i .end) next (i .line))
+
+    pub line-stops : (x ≡ 0 → ⊥) → stops x ≡ here
+    unfolding by-frame
+    line-stops h = let e : stops x ≡ framed = rw (← met) (simp (ne-eqb x 0 h)) in e ∙ is-framed
+
+    pub line-leads : x ≡ 0 → leads (i .line .held) next (lines (drop next text)) ≡ here
+    unfolding by-frame
+    line-leads h =
+        let e : leads (i .line .held) next (lines (drop next text)) ≡ framed =
+        rw (← met) (simp (eq-eqb x 0 h)) in
+        e ∙ is-framed
 
 -- line 1
 module _ (text : List ℕ) where
-  pub begun-none : {l : Line} → l ≡ answer 0 (lines text) → NotFound l → {r : ℕ} → r ≡ line.refusal l
-      → Begun text (Fails r)
-  unfolding Begun from-first verdict
-  begun-none {l} q h e = λ d. rw e (no-line text 0 (from-first d) 1 refl (λ l ls b. rw b) l q h)
+  abbrev first-met : List ℕ → ℕ
+  first-met bs = first-refusal (frame-of bs)
+
+  abbrev counted-on : List ℕ → ℕ → List Raw → Opened
+  counted-on bs next ls = counts next (frame-of bs)
+
+  pub opened-none : {l : Line} → l ≡ answer 0 (lines text) → NotFound l → {x : ℕ} → x ≡ line.refusal l
+      → Fails x ≡ opened (lines text)
+  unfolding opened
+  opened-none q h e = none-stops Fails first-met counted-on text 0 q h e
 
   module _ {next : ℕ} {cs : List ℕ} (i : Held text 0 next cs) where
-    pub begun-stops : {r : ℕ} → r ≡ first-refusal (frame-of (i .line .held)) → (r ≡ 0 → ⊥)
-        → Begun text (Fails r)
-    unfolding Begun from-first verdict
-    begun-stops {r} e h = λ d. rw (i .line .first, i .line .framed, ← e) (simp (ne-eqb r 0 h))
+    pub opened-stops : {x : ℕ} → x ≡ first-refusal (frame-of (i .line .held)) → (x ≡ 0 → ⊥)
+        → Fails x ≡ opened (lines text)
+    unfolding opened
+    opened-stops e h = line-stops Fails first-met counted-on text 0 i e h
 
     module _ {e n a s : ℕ} (opens : frame-of (i .line .held) ≡ opening e n a s) {b : Bool}
         (tested : b ≡ not (eqb e 1 && (leb n 4096 && (leb a 8192 && leb s 4096)))) where
       abbrev fit : Bool
       fit = eqb e 1 && (leb n 4096 && (leb a 8192 && leb s 4096))
 
-      pub begun-outside : b ≡ true → Begun text (Fails 3)
+      pub opened-outside : b ≡ true → Fails 3 ≡ opened (lines text)
       unfolding first-refusal
-      begun-outside h =
-          begun-stops (rw (opens, not-true fit (sym tested ∙ h))) (λ q. omega (arith, q))
+      opened-outside h =
+          opened-stops (rw (opens, not-true fit (sym tested ∙ h))) (λ q. omega (arith, q))
 
-      pub begun-inside : b ≡ false → Begun text (Track n a s next)
-      unfolding Begun from-first verdict heard first-refusal behind
-      begun-inside h =
-          let fits : fit ≡ true = not-false fit (sym tested ∙ h) in
-          let p = both (eqb e 1) (leb n 4096 && (leb a 8192 && leb s 4096)) fits in
-          let q = both (leb n 4096) (leb a 8192 && leb s 4096) (p .1) in
-          let r = both (leb a 8192) (leb s 4096) (q .1) in
-          record {
-            nodes-fit = leb-true n 4096 (q .0);
-            arcs-fit = leb-true a 8192 (r .0);
-            meetings-fit = leb-true s 4096 (r .1);
-            work = λ d. rw (i .line .first, i .line .framed, opens, fits);
-          }
+      pub opened-inside : b ≡ false → Track n a s next ≡ opened (lines text)
+      unfolding opened first-refusal counts
+      opened-inside h =
+          let met : 0 ≡ first-refusal (frame-of (i .line .held)) = rw (opens, not-false fit (sym tested ∙ h)) in
+          let told : Track n a s next ≡ counts next (frame-of (i .line .held)) = rw opens in
+          told ∙ line-leads Fails first-met counted-on text 0 i met refl
 
--- as many of one kind, the first of them apart
-one-due : (x : Due) (n k : ℕ) → k < n → (ds : List Due)
-    → replicate (n - k) x ++ ds ≡ x ∷ (replicate (n - (k + 1)) x ++ ds)
-one-due x n k more ds = let m : n - k ≡ suc (n - (k + 1)) = omega (arith, more) in rw m
+-- the last line, and what stands behind it
+module _ (text : List ℕ) (at k : ℕ) where
+  pub behind-end : answer at (lines (drop at text)) ≡ End → Goes at ≡ none-read k at (lines (drop at text))
+  unfolding none-read
+  behind-end e = rw (none-left text at e)
 
--- marks of one more node
-module _ (ks xs rs : List ℕ) where
+  pub behind-no-line : answer at (lines (drop at text)) ≡ NoLine → Stops 1 k ≡ none-read k at (lines (drop at text))
+  unfolding none-read verdict
+  behind-no-line e = let b = not-a-line text at e in rw (b .first, b .broken)
+
+  pub behind-line : {e m : ℕ} → answer at (lines (drop at text)) ≡ Found e m
+      → Stops 2 k ≡ none-read k at (lines (drop at text))
+  unfolding none-read verdict
+  behind-line {e} {m} h = let b = is-line text at e m h in rw (b .first, b .framed)
+
+  abbrev halted : ℕ → Lines
+  halted r = Stops r k
+
+  abbrev last-met : List ℕ → ℕ
+  last-met bs = refusal 0 0 the-last (frame-of bs)
+
+  abbrev ended-on : List ℕ → ℕ → List Raw → Lines
+  ended-on bs next ls = none-read (k + 1) next ls
+
+  pub last-none : {l : Line} → l ≡ answer at (lines (drop at text)) → NotFound l → {x : ℕ} → x ≡ line.refusal l
+      → Stops x k ≡ last-read k at (lines (drop at text))
+  unfolding last-read
+  last-none q h e = none-stops halted last-met ended-on text at q h e
+
+  module _ {next : ℕ} {cs : List ℕ} (i : Held text at next cs) where
+    pub last-stops : 2 ≡ refusal 0 0 the-last (frame-of (i .line .held))
+        → Stops 2 k ≡ last-read k at (lines (drop at text))
+    unfolding last-read
+    last-stops met = line-stops halted last-met ended-on text at i met (λ q. omega (arith, q))
+
+    pub last-goes : 0 ≡ refusal 0 0 the-last (frame-of (i .line .held)) → {t : Lines}
+        → t ≡ none-read (k + 1) next (lines (drop next text)) → t ≡ last-read k at (lines (drop at text))
+    unfolding last-read
+    last-goes met e = e ∙ line-leads halted last-met ended-on text at i met refl
+
+-- lines of one kind, m of them from line k on, and the column that what they have said stands in
+module _ {A : Type 0} (meets : List ℕ → ℕ) (says : List ℕ → A) (text : List ℕ) (m k from : ℕ)
+    (column : List A → List ℕ) where
+  abbrev all : Told A
+  all = lines-read meets says m k from (lines (drop from text))
+
+  -- the answer, and the column at the end
+  abbrev pub Ends : List ℕ → Lines → Type 0
+  Ends new r = (r ≡ all .answer) × (new ≡ column (all .said))
+
+  -- so many of them are read up to a cursor: all lines tell what these have said, and behind it what the others do
+  pub record Sofar (new : List ℕ) (i at : ℕ) : Type 0 where
+    pub so-said : List A
+    pub counted : length so-said ≡ i
+    pub holds : new ≡ column so-said
+    pub ahead : all ≡ told-after so-said (lines-read meets says (m - i) (k + i) at (lines (drop at text)))
+
+  pub sofar-none : {old : List ℕ} → old ≡ column [] → Sofar old 0 from
+  sofar-none e = record {
+    so-said = [];
+    counted = refl;
+    holds = e;
+    ahead = let j : m - 0 ≡ m = omega arith in let l : k + 0 ≡ k = omega arith in rw (j, l);
+  }
+
+  module _ {new : List ℕ} {i at : ℕ} (s : Sofar new i at) where
+    ends : {r : Lines}
+        → lines-read meets says (m - i) (k + i) at (lines (drop at text)) ≡ record { answer = r; said = [] }
+        → Ends new r
+    ends e =
+        let w = s .ahead ∙ ap (told-after (s .so-said)) e in
+        let all-said = ap (λ (t : Told A). t .said) w ∙ append-nil (s .so-said) in
+        (sym (ap (λ (t : Told A). t .answer) w), s .holds ∙ ap column (sym all-said))
+
+    pub all-read : i ≤ m → m ≤ i → Ends new (Goes at)
+    unfolding lines-read
+    all-read h j = let z : m - i ≡ 0 = omega arith in ends (rw z)
+
+    module _ (more : i < m) where
+      abbrev halts : ℕ → Told A
+      halts = told-stop (k + i)
+
+      abbrev others : List ℕ → ℕ → List Raw → Told A
+      others bs next ls = told-after (says bs ∷ []) (lines-read meets says (m - (i + 1)) (k + i + 1) next ls)
+
+      one-more : lines-read meets says (m - i) (k + i) at (lines (drop at text))
+          ≡ line-read halts meets others at (lines (drop at text))
+      unfolding lines-read
+      one-more = let j : m - i ≡ suc (m - (i + 1)) = omega arith in rw j
+
+      pub none-ends : {l : Line} → l ≡ answer at (lines (drop at text)) → NotFound l → {x : ℕ} → x ≡ line.refusal l
+          → {j : ℕ} → j ≡ k + i → Ends new (Stops x j)
+      none-ends q h e {j} n = rw n (ends (one-more ∙ sym (none-stops halts meets others text at q h e)))
+
+      module _ {next : ℕ} {cs : List ℕ} (c : Held text at next cs) {x : ℕ} (met : x ≡ meets (c .line .held)) where
+        pub line-ends : (x ≡ 0 → ⊥) → {j : ℕ} → j ≡ k + i → Ends new (Stops x j)
+        line-ends h {j} n = rw n (ends (one-more ∙ sym (line-stops halts meets others text at c met h)))
+
+        pub line-more : x ≡ 0 → {new′ : List ℕ} → new′ ≡ column (s .so-said ++ (says (c .line .held) ∷ []))
+            → Sofar new′ (i + 1) next
+        line-more z {new′} e =
+            let l : k + i + 1 ≡ k + (i + 1) = omega arith in
+            let left = lines-read meets says (m - (i + 1)) (k + i + 1) next (lines (drop next text)) in
+            let one = says (c .line .held) ∷ [] in
+            record {
+              so-said = s .so-said ++ one;
+              counted = omega (arith, s .counted, length-append (s .so-said) one);
+              holds = e;
+              ahead = s .ahead
+                  ∙ ap (told-after (s .so-said)) (one-more ∙ sym (line-leads halts meets others text at c met z))
+                  ∙ ap (λ (xs : List A). record { answer = left .answer; said = xs })
+                  (sym (append-assoc (s .so-said) one (left .said)))
+                  ∙ ap (λ (j : ℕ). told-after (s .so-said ++ one)
+                  (lines-read meets says (m - (i + 1)) j next (lines (drop next text)))) l;
+            }
+
+-- the nodes' lines, whose marks stand in front in a column
+module _ (text : List ℕ) (d n : ℕ) (ks xs rs : List ℕ) (from : ℕ) (old : List ℕ) where
+  abbrev pub NodesSofar : List ℕ → ℕ → ℕ → Type 0
+  NodesSofar = Sofar (λ bs. refusal d n a-node (frame-of bs)) label-at text n 2 from
+      (λ ls. sets old 0 (marks-of ks xs rs 0 ls))
+
   marks-snoc : (j : ℕ) (ls : List Label) (l : Label)
       → marks-of ks xs rs j (ls ++ (l ∷ []))
       ≡ marks-of ks xs rs j ls ++ (mark-of ks xs rs (j + length ls) l ∷ [])
@@ -137,79 +257,26 @@ module _ (ks xs rs : List ℕ) where
       let s : j + suc (length ls) ≡ suc j + length ls = omega arith in
       rw s (ap (λ (ms : List ℕ). mark-of ks xs rs j x ∷ ms) (marks-snoc (suc j) ls l))
 
--- the nodes' lines
-module _ (text : List ℕ) (d n : ℕ) (ks xs rs : List ℕ) (from : ℕ) (old : List ℕ) where
-  pub nodes-start : NodesRead text d n ks xs rs from old old 0 from
+  pub nodes-none : NodesSofar old 0 from
   unfolding marks-of
-  nodes-start = record {
-    said = [];
-    counted = refl;
-    column = refl;
-    work = λ ds. let m : n - 0 ≡ n = omega arith in rw m;
-  }
+  nodes-none = sofar-none _ _ _ _ _ _ _ refl
 
-  pub nodes-end : {new : List ℕ} {k at : ℕ} → k ≤ n → n ≤ k
-      → NodesRead text d n ks xs rs from old new k at → NodesTold text d n ks xs rs from old new (Goes at)
-  unfolding NodesTold
-  nodes-end {new} {k} {at} h j s =
-      let e : k ≡ n = omega arith in
-      subst (λ (m : ℕ). NodesRead text d n ks xs rs from old new m at) e s
-
-  module _ {new : List ℕ} {k at : ℕ} (s : NodesRead text d n ks xs rs from old new k at) (more : k < n) where
-    begins : (ds : List Due) → ahead text d n (replicate n a-node ++ ds) nothing 2 from
-        ≡ ahead text d n (a-node ∷ (replicate (n - (k + 1)) a-node ++ ds)) (labelled (s .said)) (k + 2) at
-    begins ds =
-        s .work ds
-        ∙ ap (λ (ws : List Due). ahead text d n ws (labelled (s .said)) (k + 2) at) (one-due a-node n k more ds)
-
-    pub nodes-none : {l : Line} → l ≡ answer at (lines (drop at text)) → NotFound l → {r : ℕ}
-        → r ≡ line.refusal l → NodesTold text d n ks xs rs from old new (Stops r (k + 2))
-    unfolding NodesTold
-    nodes-none q h e = λ ds. begins ds ∙ none-stops text at d n a-node _ _ (k + 2) q h e
-
-    module _ {next : ℕ} {cs : List ℕ} (i : Held text at next cs) {r : ℕ}
-        (met : (bs : List ℕ) → bytes cs ≡ some bs → (n : ℕ) → r ≡ refusal d n a-node (frame-of bs)) where
-      abbrev bytes-held : List ℕ
-      bytes-held = i .line .held
-
-      met-here : r ≡ refusal d n a-node (frame-of bytes-held)
-      met-here = met bytes-held (i .stands) n
-
-      pub nodes-stop : (r ≡ 0 → ⊥) → NodesTold text d n ks xs rs from old new (Stops r (k + 2))
-      unfolding NodesTold
-      nodes-stop h = λ ds. begins ds ∙ line-stops text at d n a-node _ _ (k + 2) (i .line) met-here h
-
-      module _ (z : r ≡ 0) where
-        turned : taken (labelled (s .said)) (frame-of bytes-held)
-            ≡ labelled (s .said ++ (label-at bytes-held ∷ []))
-        unfolding taken
-        turned = rw (node-due bytes-held d n (sym met-here ∙ z) .0)
-
-        pub nodes-turn : {m : ℕ}
-            → ((bs : List ℕ) → bytes cs ≡ some bs → 5 ≤ length bs → m ≡ mark-of ks xs rs k (label-at bs))
-            → NodesRead text d n ks xs rs from old (set new k m) (k + 1) next
-        nodes-turn {m} marked =
-            let long = node-due bytes-held d n (sym met-here ∙ z) .1 in
-            let mark : m ≡ mark-of ks xs rs (0 + length (s .said)) (label-at bytes-held) =
-            marked bytes-held (i .stands) long
-            ∙ ap (λ (j : ℕ). mark-of ks xs rs j (label-at bytes-held)) (omega (arith, s .counted)) in
-            let place : k ≡ 0 + length (marks-of ks xs rs 0 (s .said)) =
-            omega (arith, s .counted, marks-length ks xs rs 0 (s .said)) in
-            record {
-              said = s .said ++ (label-at bytes-held ∷ []);
-              counted = omega (arith, s .counted, length-append (s .said) (label-at bytes-held ∷ []));
-              column = ap (λ (w : List ℕ). set w k m) (s .column)
-                  ∙ sets-snoc old 0 (marks-of ks xs rs 0 (s .said)) m k place
-                  ∙ ap (λ (x : ℕ). sets old 0 (marks-of ks xs rs 0 (s .said) ++ (x ∷ []))) mark
-                  ∙ ap (sets old 0) (sym (marks-snoc ks xs rs 0 (s .said) (label-at bytes-held)));
-              work = λ ds. begins ds
-                  ∙ line-goes text at d n a-node _ (labelled (s .said)) (k + 2) (i .line) met-here z
-                  ∙ ap (λ (g : Graph). ahead text d n (replicate (n - (k + 1)) a-node ++ ds) g (k + 2 + 1) next)
-                  turned
-                  ∙ ap (λ (l : ℕ). ahead text d n (replicate (n - (k + 1)) a-node ++ ds)
-                  (labelled (s .said ++ (label-at bytes-held ∷ []))) l next)
-                  (omega arith);
-            }
+  pub node-more : {new : List ℕ} {k at : ℕ} → NodesSofar new k at → k < n → {next : ℕ} {cs : List ℕ}
+      → (i : Held text at next cs) {r : ℕ} → r ≡ refusal d n a-node (frame-of (i .line .held)) → r ≡ 0 → {m : ℕ}
+      → ((bs : List ℕ) → bytes cs ≡ some bs → 5 ≤ length bs → m ≡ mark-of ks xs rs k (label-at bs))
+      → NodesSofar (set new k m) (k + 1) next
+  node-more {new} {k} {at} s more i met z {m} marked =
+      let bs = i .line .held in
+      let ls = s .so-said in
+      let long = node-due bs d n (sym met ∙ z) .1 in
+      let mark : m ≡ mark-of ks xs rs (0 + length ls) (label-at bs) =
+      marked bs (i .stands) long ∙ ap (λ (j : ℕ). mark-of ks xs rs j (label-at bs)) (omega (arith, s .counted)) in
+      let place : k ≡ 0 + length (marks-of ks xs rs 0 ls) = omega (arith, s .counted, marks-length ks xs rs 0 ls) in
+      line-more _ _ _ _ _ _ _ s more i met z
+      (ap (λ (w : List ℕ). set w k m) (s .holds)
+      ∙ sets-snoc old 0 (marks-of ks xs rs 0 ls) m k place
+      ∙ ap (λ (x : ℕ). sets old 0 (marks-of ks xs rs 0 ls ++ (x ∷ []))) mark
+      ∙ ap (sets old 0) (sym (marks-snoc 0 ls (label-at bs))))
 
 -- the words of one more pair
 flat-snoc : (ps : List Pair) (a : Pair) → flat (ps ++ (a ∷ [])) ≡ (flat ps ++ (a .from ∷ [])) ++ (a .to ∷ [])
@@ -222,118 +289,35 @@ unfolding flat
 flat-length [] = refl
 flat-length (p ∷ ps) = let h = flat-length ps in omega arith
 
--- the pairs' lines
-module _ (text : List ℕ) (d n c b m from first : ℕ) (old : List ℕ) where
-  pub pairs-start : PairsRead text d n c b m from first old old 0 from
+-- the pairs' lines, whose numbers stand in the words from b on
+module _ (text : List ℕ) (c n m k from b : ℕ) (old : List ℕ) where
+  abbrev pub PairsSofar : List ℕ → ℕ → ℕ → Type 0
+  PairsSofar = Sofar (pair-refusal n c) pair-at text m k from (λ ps. sets old b (flat ps))
+
+  pub pairs-none : PairsSofar old 0 from
   unfolding flat
-  pairs-start = record {
-    said = [];
-    counted = refl;
-    column = refl;
-    work = λ g ds. let j : m - 0 ≡ m = omega arith in let l : first + 0 ≡ first = omega arith in rw (j, l);
-  }
+  pairs-none = sofar-none _ _ _ _ _ _ _ refl
 
-  pub pairs-end : {new : List ℕ} {i at : ℕ} → i ≤ m → m ≤ i → PairsRead text d n c b m from first old new i at
-      → PairsTold text d n c b m from first old new (Goes at)
-  unfolding PairsTold
-  pairs-end {new} {i} {at} h j s =
-      let e : i ≡ m = omega arith in
-      subst (λ (k : ℕ). PairsRead text d n c b m from first old new k at) e s
-
-  module _ {new : List ℕ} {i at : ℕ} (s : PairsRead text d n c b m from first old new i at) (more : i < m) where
-    goes-on : (g : Graph) (ds : List Due)
-        → ahead text d n (replicate m (due-of c) ++ ds) (with-pairs c g []) first from
-        ≡ ahead text d n (due-of c ∷ (replicate (m - (i + 1)) (due-of c) ++ ds)) (with-pairs c g (s .said))
-        (first + i) at
-    goes-on g ds =
-        s .work g ds
-        ∙ ap (λ (ws : List Due). ahead text d n ws (with-pairs c g (s .said)) (first + i) at)
-        (one-due (due-of c) m i more ds)
-
-    pub pairs-none : {l : Line} → l ≡ answer at (lines (drop at text)) → NotFound l → {r : ℕ}
-        → r ≡ line.refusal l → PairsTold text d n c b m from first old new (Stops r (first + i))
-    unfolding PairsTold
-    pairs-none q h e = λ g ds. goes-on g ds ∙ none-stops text at d n (due-of c) _ _ (first + i) q h e
-
-    module _ {next : ℕ} {cs : List ℕ} (j : Held text at next cs) {r : ℕ}
-        (met : (bs : List ℕ) → bytes cs ≡ some bs → (d : ℕ) → r ≡ refusal d n (due-of c) (frame-of bs)) where
-      abbrev pair-bytes : List ℕ
-      pair-bytes = j .line .held
-
-      met-pair : r ≡ refusal d n (due-of c) (frame-of pair-bytes)
-      met-pair = met pair-bytes (j .stands) d
-
-      pub pairs-stop : (r ≡ 0 → ⊥) → PairsTold text d n c b m from first old new (Stops r (first + i))
-      unfolding PairsTold
-      pairs-stop h = λ g ds. goes-on g ds ∙ line-stops text at d n (due-of c) _ _ (first + i) (j .line) met-pair h
-
-      pub pairs-turn : PairCode c → r ≡ 0 → {x y w v : ℕ}
-          → ((bs : List ℕ) → bytes cs ≡ some bs → 3 ≤ length bs → x ≡ number-at 1 bs) → x < 65536
-          → ((bs : List ℕ) → bytes cs ≡ some bs → 5 ≤ length bs → y ≡ number-at 3 bs) → y < 65536
-          → w ≡ b + 2 * i → v ≡ w + 1
-          → PairsRead text d n c b m from first old (set (set new w (x % 65536)) v (y % 65536)) (i + 1) next
-      pairs-turn code z {x} {y} {w} {v} x-read x-fits y-read y-fits w-is v-is =
-          let due = pair-due pair-bytes d n c code (sym met-pair ∙ z) in
-          let a = pair-at pair-bytes in
-          let x-is : x % 65536 ≡ a .from = (omega arith) ∙ x-read pair-bytes (j .stands) (omega (arith, due .0)) in
-          let y-is : y % 65536 ≡ a .to = (omega arith) ∙ y-read pair-bytes (j .stands) (omega (arith, due .0)) in
-          let ws = flat (s .said) in
-          let there : w ≡ b + length ws = omega (arith, flat-length (s .said), s .counted) in
-          let here-to : v ≡ b + length (ws ++ (a .from ∷ [])) =
-          omega (arith, flat-length (s .said), s .counted, length-append ws (a .from ∷ [])) in
-          record {
-            said = s .said ++ (a ∷ []);
-            counted = omega (arith, s .counted, length-append (s .said) (a ∷ []));
-            column = ap (λ (u : List ℕ). set (set u w (x % 65536)) v (y % 65536)) (s .column)
-                ∙ ap (λ (k : ℕ). set (set (sets old b ws) w k) v (y % 65536)) x-is
-                ∙ ap (λ (k : ℕ). set (set (sets old b ws) w (a .from)) v k) y-is
-                ∙ ap (λ (u : List ℕ). set u v (a .to)) (sets-snoc old b ws (a .from) w there)
-                ∙ sets-snoc old b (ws ++ (a .from ∷ [])) (a .to) v here-to
-                ∙ ap (sets old b) (sym (flat-snoc (s .said) a));
-            work = λ g ds. goes-on g ds
-                ∙ line-goes text at d n (due-of c) _ (with-pairs c g (s .said)) (first + i) (j .line) met-pair z
-                ∙ ap (λ (h : Graph). ahead text d n (replicate (m - (i + 1)) (due-of c) ++ ds) h (first + i + 1) next)
-                (due .1 g (s .said))
-                ∙ ap (λ (l : ℕ). ahead text d n (replicate (m - (i + 1)) (due-of c) ++ ds)
-                (with-pairs c g (s .said ++ (a ∷ []))) l next)
-                (omega arith);
-          }
-
--- the last line, and what stands behind it
-module _ (text : List ℕ) (at k : ℕ) where
-  pub behind-end : answer at (lines (drop at text)) ≡ End → (next : ℕ) → NoneTold text at k (Goes next)
-  unfolding EndTold rest
-  behind-end e next = λ d n g. rw (none-left text at e)
-
-  pub behind-no-line : answer at (lines (drop at text)) ≡ NoLine → NoneTold text at k (Stops 1 k)
-  unfolding EndTold rest verdict
-  behind-no-line e = let b = not-a-line text at e in λ d n g. rw (b .first, b .broken)
-
-  pub behind-line : {e m : ℕ} → answer at (lines (drop at text)) ≡ Found e m → NoneTold text at k (Stops 2 k)
-  unfolding EndTold rest verdict
-  behind-line {e} {m} h = let b = is-line text at e m h in λ d n g. rw (b .first, b .framed)
-
-  pub last-none : {l : Line} → l ≡ answer at (lines (drop at text)) → NotFound l → {r : ℕ}
-      → r ≡ line.refusal l → LastTold text at k (Stops r k)
-  unfolding EndTold
-  last-none q h e = λ d n g. none-stops text at d n the-last [] g k q h e
-
-  module _ {next : ℕ} {cs : List ℕ} (i : Held text at next cs) where
-    pub last-stops : ((d n : ℕ) → 2 ≡ refusal d n the-last (frame-of (i .line .held)))
-        → LastTold text at k (Stops 2 k)
-    unfolding EndTold
-    last-stops met = λ d n g. line-stops text at d n the-last [] g k (i .line) (met d n) (λ q. omega (arith, q))
-
-    module _ (met : (d n : ℕ) → 0 ≡ refusal d n the-last (frame-of (i .line .held))) where
-      over : (d n : ℕ) (g : Graph) → ahead text d n (the-last ∷ []) g k at ≡ ahead text d n [] g (k + 1) next
-      unfolding taken
-      over d n g =
-          let is = last-due (i .line .held) d n (sym (met d n)) in
-          let same : taken g (frame-of (i .line .held)) ≡ g = rw is in
-          line-goes text at d n the-last [] g k (i .line) (met d n) refl
-          ∙ ap (λ (h : Graph). ahead text d n [] h (k + 1) next) same
-
-      pub last-goes : (t : Lines) → NoneTold text next (k + 1) t → LastTold text at k t
-      unfolding EndTold
-      last-goes (Goes m) h = λ d n g. over d n g ∙ h d n g
-      last-goes (Stops r l) h = λ d n g. over d n g ∙ h d n g
+  pub pair-more : {new : List ℕ} {i at : ℕ} → PairsSofar new i at → i < m → {next : ℕ} {cs : List ℕ}
+      → (j : Held text at next cs) {r : ℕ} → r ≡ pair-refusal n c (j .line .held) → r ≡ 0 → {x y w v : ℕ}
+      → (3 ≤ length (j .line .held) → x ≡ number-at 1 (j .line .held)) → x < 65536
+      → (5 ≤ length (j .line .held) → y ≡ number-at 3 (j .line .held)) → y < 65536
+      → w ≡ b + 2 * i → v ≡ w + 1
+      → PairsSofar (set (set new w (x % 65536)) v (y % 65536)) (i + 1) next
+  pair-more {new} {i} s more j met z {x} {y} {w} {v} x-read x-fits y-read y-fits w-is v-is =
+      let bs = j .line .held in
+      let long = formed-parts c 5 bs (pair-formed bs n c (sym met ∙ z)) .1 in
+      let a = pair-at bs in
+      let x-is : x % 65536 ≡ a .from = (omega arith) ∙ x-read (omega (arith, long)) in
+      let y-is : y % 65536 ≡ a .to = (omega arith) ∙ y-read (omega (arith, long)) in
+      let ws = flat (s .so-said) in
+      let there : w ≡ b + length ws = omega (arith, flat-length (s .so-said), s .counted) in
+      let there-to : v ≡ b + length (ws ++ (a .from ∷ [])) =
+      omega (arith, flat-length (s .so-said), s .counted, length-append ws (a .from ∷ [])) in
+      line-more _ _ _ _ _ _ _ s more j met z
+      (ap (λ (u : List ℕ). set (set u w (x % 65536)) v (y % 65536)) (s .holds)
+      ∙ ap (λ (l : ℕ). set (set (sets old b ws) w l) v (y % 65536)) x-is
+      ∙ ap (λ (l : ℕ). set (set (sets old b ws) w (a .from)) v l) y-is
+      ∙ ap (λ (u : List ℕ). set u v (a .to)) (sets-snoc old b ws (a .from) w there)
+      ∙ sets-snoc old b (ws ++ (a .from ∷ [])) (a .to) v there-to
+      ∙ ap (sets old b) (sym (flat-snoc (s .so-said) a)))

@@ -28,12 +28,15 @@ use rules::NODE_ROOM;
 ghost use mathlib.Core.Path.{_≡_};
 ghost use mathlib.Core.Bool.{_&&_, not};
 ghost use mathlib.Core.List.{List};
-ghost use mathlib.Core.Logic.{_⊎_};
 ghost use mathlib.Core.Option.{some};
 ghost use Prim.Native.Nat.{ℕ, _+_, _*_, _≤_};
+ghost use lib.ListN.{drop};
 ghost use lib.Dec.{leb, eqb};
-ghost use Rattle.lines.specs.Line.{bytes};
+ghost use lib.Seq.{sets};
+ghost use Rattle.lines.specs.Line.{lines, bytes};
 ghost use Rattle.graphs.specs.Parsed.{refusal, frame-of, a-node};
+ghost use Rattle.links.specs.words.Columns.{flat};
+ghost use Rattle.finding.specs.code.Found.{marks-of};
 ghost use Rattle.parsing.specs.code.Phases as of;
 
 // Line 1: the counts of a track, with the next line from `next` on; or the number of its refusal.
@@ -56,9 +59,12 @@ pub enum Lines {
 // How many bytes stand before a node's path.
 const NODE_HEAD: usize = 5;
 
+// The line of node 0.
+const FIRST_NODE: usize = 2;
+
 // Reads line 1.
 pub fn first_line(text: &[u8]) -> Opened
-    ensures { λ r. ⌜ of.Begun (now (text .entry)) r ⌝ }
+    ensures { λ r. ⌜ r ≡ of.opened (lines (now (text .entry))) ⌝ }
 {
     let line = next_line(text, 0);
     let Line::Found { end, next } = line else {
@@ -104,7 +110,8 @@ fn counts_outside(edition: u8, nodes: usize, arcs: usize, meetings: usize) -> bo
     false
 }
 
-// Reads the lines of so many nodes, from line 2 on.
+// Reads the lines of so many nodes, from line 2 on. Their marks stand in `labels` by number, up to the line that is refused
+// where one is. There are at most as many as a run has room for, so that they fit into `labels`.
 pub fn read_nodes(
     text: &[u8],
     from: usize,
@@ -116,26 +123,26 @@ pub fn read_nodes(
     labels: &mut Column,
 ) -> Lines
     requires { ⌜ count ≤ 4096 ⌝ }
-    ensures { λ r. ⌜ of.NodesTold (now (text .entry)) definitions count (now (kinds .entry)) (now (after .entry))
-        (now (roots .entry)) from (now (labels .entry)) (now (labels .exit)) r ⌝ }
+    ensures { λ r. ⌜ r ≡ (of.nodes-read definitions count (now (text .entry)) from) .answer ⌝ }
+    ensures { λ _. ⌜ now (labels .exit) ≡ sets (now (labels .entry)) 0
+        (marks-of (now (kinds .entry)) (now (after .entry)) (now (roots .entry)) 0
+        ((of.nodes-read definitions count (now (text .entry)) from) .said)) ⌝ }
 {
     let mut at = from;
     let mut k: usize = 0;
     while k < count {
-        let line = next_line(text, at);
-        let Line::Found { end, next } = line else {
+        let line = k + FIRST_NODE;
+        let found = next_line(text, at);
+        let Line::Found { end, next } = found else {
             return Lines::Stops {
-                number: refusal_of(line),
-                line: k + 2,
+                number: refusal_of(found),
+                line,
             };
         };
         let chars = characters(text, at, end);
         let number = node_refusal(chars, definitions);
         if number != 0 {
-            return Lines::Stops {
-                number,
-                line: k + 2,
-            };
+            return Lines::Stops { number, line };
         }
         labels[k] = mark_of(k, chars, kinds, after, roots);
         at = next;
@@ -166,8 +173,9 @@ fn node_refusal(chars: &[u8], definitions: usize) -> u8
     0
 }
 
-// Reads the lines of so many pairs, which begin with `code`, of a track of so many nodes; the first is line `first`, and they
-// go to the words of a track from `base` on.
+// Reads the lines of so many pairs, which begin with `code`, of a track of so many nodes; the first is line `first`. They
+// stand in `graph` from `base` on, up to the line that is refused where one is. They have to fit into `graph` there, and
+// `first` has to be small enough for the numbers of the lines behind it.
 pub fn read_pairs(
     code: u8,
     base: usize,
@@ -178,27 +186,26 @@ pub fn read_pairs(
     nodes: usize,
     graph: &mut Track,
 ) -> Lines
-    requires { ⌜ (count ≤ 8192) × (base + 2 * count ≤ 28672) × (first ≤ 20000) × ((code ≡ 50) ⊎ (code ≡ 51)) ⌝ }
-    ensures { λ r. ⌜ ((d : ℕ) → of.PairsTold (now (text .entry)) d nodes code base count from first
-        (now (graph .entry)) (now (graph .exit)) r) ⌝ }
+    requires { ⌜ (base + 2 * count ≤ 28672) × (first ≤ 20000) ⌝ }
+    ensures { λ r. ⌜ r ≡ (of.pairs-read code nodes count first (now (text .entry)) from) .answer ⌝ }
+    ensures { λ _. ⌜ now (graph .exit) ≡ sets (now (graph .entry)) base
+        (flat ((of.pairs-read code nodes count first (now (text .entry)) from) .said)) ⌝ }
 {
     let mut at = from;
     let mut i: usize = 0;
     while i < count {
-        let line = next_line(text, at);
-        let Line::Found { end, next } = line else {
+        let line = first + i;
+        let found = next_line(text, at);
+        let Line::Found { end, next } = found else {
             return Lines::Stops {
-                number: refusal_of(line),
-                line: first + i,
+                number: refusal_of(found),
+                line,
             };
         };
         let chars = characters(text, at, end);
         let number = pair_refusal(code, chars, nodes);
         if number != 0 {
-            return Lines::Stops {
-                number,
-                line: first + i,
-            };
+            return Lines::Stops { number, line };
         }
         let word = base + 2 * i;
         graph[word] = (number_at(chars, 1) % 65536) as u16;
@@ -211,9 +218,7 @@ pub fn read_pairs(
 
 // The number that a line meets where a pair is due, 0 where it meets none.
 fn pair_refusal(code: u8, chars: &[u8], nodes: usize) -> u8
-    requires { ⌜ (code ≡ 50) ⊎ (code ≡ 51) ⌝ }
-    ensures { λ r. ⌜ ((bs : List ℕ) → bytes (now (chars .entry)) ≡ some bs
-        → (d : ℕ) → r ≡ refusal d nodes (of.due-of code) (frame-of bs)) ⌝ }
+    ensures { λ r. ⌜ ((bs : List ℕ) → bytes (now (chars .entry)) ≡ some bs → r ≡ of.pair-refusal nodes code bs) ⌝ }
 {
     if chars.len() != 10 {
         return WRONG_FRAME;
@@ -230,10 +235,10 @@ fn pair_refusal(code: u8, chars: &[u8], nodes: usize) -> u8
     0
 }
 
-// Reads the last line, behind which nothing may stand.
+// Reads the last line, behind which nothing may stand. `line` has to be small enough for the number of the line behind it.
 pub fn last_lines(text: &[u8], at: usize, line: usize) -> Lines
     requires { ⌜ line ≤ 20000 ⌝ }
-    ensures { λ r. ⌜ of.LastTold (now (text .entry)) at line r ⌝ }
+    ensures { λ r. ⌜ r ≡ of.last-read line at (lines (drop at (now (text .entry)))) ⌝ }
 {
     let found = next_line(text, at);
     let Line::Found { end, next } = found else {
@@ -260,7 +265,7 @@ pub fn last_lines(text: &[u8], at: usize, line: usize) -> Lines
 
 // Behind the last line any line is a frame out of place.
 fn behind_last(text: &[u8], at: usize, line: usize) -> Lines
-    ensures { λ r. ⌜ of.NoneTold (now (text .entry)) at line r ⌝ }
+    ensures { λ r. ⌜ r ≡ of.none-read line at (lines (drop at (now (text .entry)))) ⌝ }
 {
     let found = next_line(text, at);
     match found {

@@ -31,14 +31,10 @@ use Rattle.walks.proofs.LinkTold.{all-fit-told, walked-told}
 use Rattle.finding.specs.code.Found.{marks-of}
 use Rattle.finding.proofs.FoundLaws.{DefinitionsBelow, marks-shaped}
 use Rattle.shapes.specs.code.Rules.{as-walked, joins-events, shaped}
+use Rattle.shapes.proofs.RuleTests.{and-where}
 use Rattle.reading.specs.code.Outcome.{outcome}
 use Rattle.reading.specs.code.Outcome as Outcome
 use Rattle.reading.proofs.MarksTold.{marks-telling, events-told}
-
--- what is behind a test may be taken where it holds
-and-where : {b c : Bool} (a : Bool) → (a ≡ true → b ≡ c) → a && b ≡ a && c
-and-where true h = h refl
-and-where false h = refl
 
 -- rules one behind the other are the same where each is as long as those before it hold
 rules-same : (m i p a f b w v x y n o : Bool) → m ≡ i && p
@@ -105,7 +101,7 @@ module _ (text : List ℕ) (s : Sofar) (q : judged text ≡ accepted s) where
 
       -- the walk by marks is then the graph's
       as-walked-told : fit ≡ true
-          → as-walked (kinds s) (payloads s) (afters s) (laid marks) (length (g .labels)) (g .arcs)
+          → as-walked (kinds s) (afters s) (laid marks) (length (g .labels)) (g .arcs)
           ≡ Shape.walked g
       unfolding as-walked Shape.walked
       as-walked-told f =
@@ -113,7 +109,7 @@ module _ (text : List ℕ) (s : Sofar) (q : judged text ≡ accepted s) where
           (walked-told text s q (laid marks) g telling f arcs)
 
       -- and meetings join events by marks where they do by places
-      meetings-told : every (joins-events (kinds s) (payloads s) (afters s) (laid marks)) (g .meetings)
+      meetings-told : every (joins-events (payloads s) (laid marks)) (g .meetings)
           ≡ every (Shape.joins-events ts g) (g .meetings)
       unfolding Shape.joins-events
       meetings-told =

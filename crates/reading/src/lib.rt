@@ -26,6 +26,7 @@ ghost use mathlib.Core.Path.{_≡_};
 ghost use lib.ListN.{replicate};
 ghost use Rattle.graphs.specs.Parsed.{parsed};
 ghost use Rattle.reading.specs.code.Outcome as of;
+ghost use Rattle.columns.specs.words.Columns.{read-columns};
 ghost use Rattle.reading.specs.words.Kept.{Reads};
 
 // What reading comes to: the counts of the graph that was read; or a refusal's number and line.
@@ -59,8 +60,8 @@ pub fn read_track(
         (now (after .entry)) (now (roots .entry)) definitions (now (text .entry))) (now (labels .entry)) ⌝ }
     ensures { λ _. ⌜ now (graph .exit) ≡ of.graph-left (of.outcome (now (kinds .entry)) (now (payloads .entry))
         (now (after .entry)) (now (roots .entry)) definitions (now (text .entry))) (now (graph .entry)) ⌝ }
-    ensures { λ r. ⌜ Reads definitions (now (kinds .entry)) (now (payloads .entry)) (now (after .entry))
-        (now (roots .entry)) (now (text .entry)) (now (labels .entry)) (now (graph .entry))
+    ensures { λ r. ⌜ Reads definitions (read-columns (now (kinds .entry)) (now (payloads .entry)) (now (after .entry))
+        (now (roots .entry))) (now (text .entry)) (now (labels .entry)) (now (graph .entry))
         r (now (labels .exit)) (now (graph .exit)) ⌝ }
     ensures { λ _. ⌜ now (marks .exit) ≡ replicate 8193 0 ⌝ }
     ensures { λ _. ⌜ now (track .exit) ≡ replicate 28672 0 ⌝ }
@@ -83,10 +84,6 @@ pub fn read_track(
         numbers,
         walked,
     );
-    *sides = [0u16; SIDE_WORDS];
-    *pending = [0u16; SIDE_WORDS];
-    *numbers = [0u16; REFERENCES];
-    *walked = [0u16; REFERENCES];
     hand_over(judged, labels, graph, marks, track);
     judged
 }
@@ -112,7 +109,7 @@ fn hand_over(
     *track = [0u16; TRACK_WORDS];
 }
 
-// Judges a text: its lines first, and then the shape of its graph.
+// Judges a text: its lines first, and then the shape of its graph. The last four are scratch, and all 0 afterwards.
 fn judge(
     text: &[u8],
     definitions: usize,
@@ -132,9 +129,17 @@ fn judge(
     ensures { λ _. ⌜ of.Held (now (kinds .entry)) (now (after .entry)) (now (roots .entry))
         (of.outcome (now (kinds .entry)) (now (payloads .entry)) (now (after .entry)) (now (roots .entry))
         definitions (now (text .entry))) (now (labels .exit)) (now (graph .exit)) ⌝ }
+    ensures { λ _. ⌜ now (sides .exit) ≡ replicate 16388 0 ⌝ }
+    ensures { λ _. ⌜ now (pending .exit) ≡ replicate 16388 0 ⌝ }
+    ensures { λ _. ⌜ now (numbers .exit) ≡ replicate 8193 0 ⌝ }
+    ensures { λ _. ⌜ now (walked .exit) ≡ replicate 8193 0 ⌝ }
 {
     let read = read_lines(text, definitions, kinds, after, roots, labels, graph);
     let Read::Accepted(counts) = read else {
+        *sides = [0u16; SIDE_WORDS];
+        *pending = [0u16; SIDE_WORDS];
+        *numbers = [0u16; REFERENCES];
+        *walked = [0u16; REFERENCES];
         return read;
     };
     let fits = has_shape(

@@ -4,13 +4,13 @@ use Prim.Native.Nat.{ℕ}
 use mathlib.Core.Path.{_≡_, _∙_}
 use mathlib.Core.List.{List}
 use Rattle.runs.specs.code.Doors.{fresh-nodes, fresh-track, fresh-counters, stepped}
-use Rattle.runs.specs.words.Held.{Keeps, Begins}
+use Rattle.runs.specs.words.Held.{lent, Keeps, Begins}
 use Rattle.runs.specs.declared.Answer.{Answer}
 use Rattle.runs.proofs.Laws.{Steps}
 use Rattle.runs.proofs.Starting.{start-holds}
 use Rattle.runs.proofs.Answering.{step-answered, step-holds}
 
-pub begins : (w g c : List ℕ) → w ≡ fresh-nodes → g ≡ fresh-track → c ≡ fresh-counters → Begins w g c
+pub begins : (w g c : List ℕ) → w ≡ fresh-nodes → g ≡ fresh-track → c ≡ fresh-counters → Begins (lent w g c)
 begins w g c e f h l p x ts = rw (e, f, h) (start-holds l p x ts)
 
 module _ (p x : List ℕ) (count : ℕ) (ds w g c : List ℕ) (r : Answer) (w′ g′ c′ : List ℕ) where
@@ -20,9 +20,9 @@ module _ (p x : List ℕ) (count : ℕ) (ds w g c : List ℕ) (r : Answer) (w′
       (r ≡ stepped p x count ds w g c .answer)
       × ((w′ ≡ stepped p x count ds w g c .nodes)
       × ((g′ ≡ stepped p x count ds w g c .track)
-      × ((c′ ≡ stepped p x count ds w g c .counters) × Keeps p x count ds w g c r w′ g′ c′)))
+      × ((c′ ≡ stepped p x count ds w g c .counters) × Keeps p x count ds (lent w g c) r (lent w′ g′ c′))))
 
-  keeps : Steps r w′ g′ c′ (stepped p x count ds w g c) → Keeps p x count ds w g c r w′ g′ c′
+  keeps : Steps r w′ g′ c′ (stepped p x count ds w g c) → Keeps p x count ds (lent w g c) r (lent w′ g′ c′)
   keeps e l ts s table held = (
     e .0 ∙ step-answered l p x ts count ds table w g c s held,
     rw (e .1 .0, e .1 .1 .0, e .1 .1 .1) (step-holds l p x ts count ds table w g c s held),

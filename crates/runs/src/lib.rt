@@ -25,7 +25,7 @@ use weights::Weighed;
 use weights::Weight;
 ghost use mathlib.Core.Path.{_≡_};
 ghost use Rattle.runs.specs.code.Doors as spec;
-ghost use Rattle.runs.specs.words.Held.{Keeps, Begins};
+ghost use Rattle.runs.specs.words.Held.{lent, Keeps, Begins};
 
 // How deep control and the terms below it are gone down to, at most: a control has at most 1,024 cells, and an
 // untouched term 64 levels, each of which a step may enter.
@@ -49,7 +49,7 @@ pub fn start(nodes: &mut Nodes, track: &mut Track, counters: &mut Counters)
     ensures { λ _. ⌜ now (nodes .exit) ≡ spec.fresh-nodes ⌝ }
     ensures { λ _. ⌜ now (track .exit) ≡ spec.fresh-track ⌝ }
     ensures { λ _. ⌜ now (counters .exit) ≡ spec.fresh-counters ⌝ }
-    ensures { λ _. ⌜ Begins (now (nodes .exit)) (now (track .exit)) (now (counters .exit)) ⌝ }
+    ensures { λ _. ⌜ Begins (lent (now (nodes .exit)) (now (track .exit)) (now (counters .exit))) ⌝ }
 {
     *nodes = [0u16; NODE_WORDS];
     *track = [0u16; TRACK_WORDS];
@@ -76,8 +76,8 @@ pub fn step(
     ensures { λ _. ⌜ now (counters .exit) ≡ spec.stepped (now (plan .entry)) (now (sets .entry)) count
         (now (digits .entry)) (now (nodes .entry)) (now (track .entry)) (now (counters .entry)) .counters ⌝ }
     ensures { λ r. ⌜ Keeps (now (plan .entry)) (now (sets .entry)) count (now (digits .entry))
-        (now (nodes .entry)) (now (track .entry)) (now (counters .entry))
-        r (now (nodes .exit)) (now (track .exit)) (now (counters .exit)) ⌝ }
+        (lent (now (nodes .entry)) (now (track .entry)) (now (counters .entry))) r
+        (lent (now (nodes .exit)) (now (track .exit)) (now (counters .exit))) ⌝ }
 {
     let weighed = weigh(count, digits, plan, sets, nodes, track, counters);
     let Weighed::Derived(w) = weighed else {

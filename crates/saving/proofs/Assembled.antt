@@ -17,6 +17,7 @@ use Rattle.writing.specs.declared.Saved.{Saved}
 use Rattle.saving.specs.code.Saving.{marks-from, marks, labels-saved, graph-saved, counts, text-of}
 use Rattle.saving.specs.words.Kept.{Saves}
 use Rattle.saving.proofs.Promises.{saves}
+use Rattle.runs.specs.words.Held.{lent}
 
 -- what the numbering gives, of so many arcs and meetings
 abbrev Numbers : List ℕ → List ℕ → List ℕ → List ℕ → ℕ → ℕ → Counts → List ℕ → List ℕ → Type 0
@@ -56,7 +57,7 @@ module _ (ks os xs rs w g c : List ℕ) (drawn count a m : ℕ) (ms ls to : List
       → ((r ≡ answer (text-of ks os xs rs w g c) (length slice))
       × (slice′ ≡ left (text-of ks os xs rs w g c) slice))
       × ((ls ≡ labels-saved ks xs w g c) × (to ≡ graph-saved ks xs w g c))
-      × Saves ks os xs rs w g c slice r slice′
+      × Saves (columns ks os xs rs) (lent w g c) slice r slice′
   assembled r slice slice′ answered written =
       let e = answered ∙ ap (λ t. answer t (length slice)) text-told in
       let f = written ∙ ap (λ t. left t slice) text-told in

@@ -40,7 +40,8 @@ use Rattle.links.specs.words.Columns.{at}
 use Rattle.walks.proofs.Telling.{Telling, mark-told}
 use Rattle.walks.proofs.LinkTold.{every-member}
 use Rattle.saving.specs.code.Saving.{marks-from, marks, text-of}
-use Rattle.saving.specs.words.Kept.{Table-of}
+use Rattle.columns.specs.words.Columns.{all-columns}
+use Rattle.tables.specs.words.Columns.{Table-of}
 use Rattle.saving.proofs.MarkLaws.{marks-length}
 use Rattle.saving.proofs.NumberedTold.{laid-told, graph-told-canonical}
 
@@ -141,9 +142,9 @@ module _ (text : List ℕ) (t : Sofar) (q : judged text ≡ accepted t) (p x w g
       (labelled-once ts (h .reached)) branch (arcs-once ts (h .reached)) met-once)
 
 -- the text of words that hold a run is its track's saved text
-pub saves-told : (text ks os xs rs : List ℕ) (t : Sofar) → Table-of text ks os xs rs t
+pub saves-told : (text ks ps os xs rs : List ℕ) (t : Sofar) → Table-of text (all-columns ks ps os xs rs) t
     → (p x w g c : List ℕ) (s : State) → Holds (layout t) p x (definitions-of t) w g c s
     → text-of ks os xs rs w g c ≡ saved (graph-of s)
-saves-told text ks os xs rs t table p x w g c s h =
+saves-told text ks ps os xs rs t table p x w g c s h =
     rw (table .kinds-are, table .owners-are, table .after-are, table .roots-are)
     (words-saved text t (table .checked) p x w g c s h)

@@ -25,6 +25,8 @@ ghost use lib.ListN.{length, replicate};
 ghost use Rattle.walks.specs.code.Walked.{laid};
 ghost use Rattle.writing.specs.words.Slice.{answer, left};
 ghost use Rattle.saving.specs.code.Saving as of;
+ghost use Rattle.columns.specs.words.Columns.{columns};
+ghost use Rattle.runs.specs.words.Held.{lent};
 ghost use Rattle.saving.specs.words.Kept.{Saves};
 
 // Saves a run into a slice: the text's length, or refusal 12 with the length that it would have. `Short` leaves the slice as
@@ -62,8 +64,8 @@ pub fn save(
     ensures { λ _. ⌜ now (pending .exit) ≡ replicate 16388 0 ⌝ }
     ensures { λ _. ⌜ now (numbers .exit) ≡ replicate 8193 0 ⌝ }
     ensures { λ _. ⌜ now (spare .exit) ≡ replicate 28672 0 ⌝ }
-    ensures { λ r. ⌜ Saves (now (kinds .entry)) (now (owners .entry)) (now (after .entry)) (now (roots .entry))
-        (now (nodes .entry)) (now (track .entry)) (now (counters .entry)) (now (text .entry))
+    ensures { λ r. ⌜ Saves (columns (now (kinds .entry)) (now (owners .entry)) (now (after .entry)) (now (roots .entry)))
+        (lent (now (nodes .entry)) (now (track .entry)) (now (counters .entry))) (now (text .entry))
         r (now (text .exit)) ⌝ }
 {
     take_marks(at_most(wide(counters[FRESH]), REFERENCES), nodes, marks);

@@ -1,21 +1,20 @@
 -- The reader's rules, as they are tested. A rule of every item is tested from the first item on: as long as all have passed,
 -- what is left tells the whole, so the first that fails settles it, and with none left all have passed. That pairs ascend is
 -- tested likewise, of each pair and the one before it. Assumes nothing.
-use Prim.Native.Nat.{ℕ, zero, suc, _+_, _*_, _-_, _%_, _≤_, _<_}
+use Prim.Native.Nat.{ℕ, zero, suc, _+_, _*_, _-_, _≤_, _<_}
 use mathlib.Core.Path.{_≡_, refl, sym, _∙_}
-use mathlib.Core.Bool.{Bool, true, false, _&&_, not, and-false}
+use mathlib.Core.Bool.{Bool, true, false, _&&_, _||_, not, and-false}
 use mathlib.Core.List.{List, [], _∷_}
 use native.Mathlib.Omega.{arith}
 use native.Mathlib.Nat.{sub-zero}
 use native.Mathlib.Numerals.{add-one}
-use lib.Dec.{leb, eqb}
-use borrow.Author.Tests.{leb-true, eq-eqb, ne-eqb, lt-ltb, le-ltb, le-leb, lt-leb, not-true, not-false}
+use lib.Dec.{leb, ltb, eqb}
+use borrow.Author.Tests.{leb-true, eq-eqb, ne-eqb, not-true, not-false}
 use Rattle.lines.proofs.Digits.{both}
 use Rattle.control.specs.words.Words.{track-word}
 use Rattle.rules.specs.Track.{Pair, pair}
 use Rattle.control.specs.words.Views.{pairs}
 use Rattle.graphs.specs.Shape.{every, before, before-first, ascends, upward, from-on}
-use Rattle.graphs.proofs.Pairs.{sooner, beside, true-before}
 use Rattle.links.specs.words.Columns.{at}
 use Rattle.shapes.specs.code.Rules.{is-event, one-event}
 
@@ -25,6 +24,11 @@ rule-broken rest h = rw h
 
 pub rule-met : {rule rest answer : Bool} → rule ≡ true → answer ≡ rest → answer ≡ (rule && rest)
 rule-met h e = rw h e
+
+-- and the rest may be taken where it is met
+pub and-where : {b c : Bool} (a : Bool) → (a ≡ true → b ≡ c) → a && b ≡ a && c
+and-where true h = h refl
+and-where false h = refl
 
 -- an answer that was negated
 module _ {answer rule : Bool} (told : answer ≡ rule) where
@@ -106,22 +110,6 @@ every-both t u (x ∷ xs) = go (t x) (u x) (every-both t u xs)
     go true false e = sym (and-false (every t xs))
     go false b e = refl
 
--- a pair is before the next by its first number, or by its second where these are the same
-module _ (p q f s : ℕ) where
-  first-falls : f < p → before (pair p q) (pair f s) ≡ false
-  unfolding before
-  first-falls h = rw (le-ltb p f (omega arith), ne-eqb p f (λ e. omega arith))
-
-  second-stays : f ≡ p → s ≤ q → before (pair p q) (pair f s) ≡ false
-  unfolding before
-  second-stays e h = rw (le-ltb p f (omega arith), eq-eqb p f (sym e), le-ltb q s h)
-
-  first-rises : p ≤ f → (f ≡ p → ⊥) → before (pair p q) (pair f s) ≡ true
-  first-rises h other = true-before (sooner (omega arith))
-
-  second-rises : f ≡ p → q < s → before (pair p q) (pair f s) ≡ true
-  second-rises e h = true-before (beside (sym e) h)
-
 -- a pair in front of others
 ascends-next : (a b : Pair) (as′ bs : List Pair) → as′ ≡ b ∷ bs → ascends (a ∷ as′) ≡ (before a b && ascends as′)
 unfolding ascends before-first
@@ -157,63 +145,38 @@ module _ (base : ℕ) (w : List ℕ) (c : ℕ) where
         go (suc (suc k)) m = absurd (omega arith)
 
     -- a pair, and the one before it
-    module _ (h : i < c) (f p : ℕ) (f-is : f ≡ track-word w (base + 2 * i))
-        (p-is : p ≡ track-word w (base + 2 * i - 2)) where
+    module _ (h : i < c) {f p q s : ℕ} (f-is : f ≡ track-word w (base + 2 * i))
+        (p-is : p ≡ track-word w (base + 2 * i - 2)) (q-is : q ≡ track-word w (base + 2 * i - 1))
+        (s-is : s ≡ track-word w (base + 2 * i + 1)) where
       -- by the words of both
-      both-words : (b : Bool)
-          → before (pair p (track-word w (base + 2 * i - 1))) (pair f (track-word w (base + 2 * i + 1))) ≡ b
-          → ascends (pairs base w 0 c) ≡ (b && ascends (pairs base w i (c - i)))
-      both-words b e =
+      both-words : ascends (pairs base w 0 c)
+          ≡ ((ltb p f || (eqb p f && ltb q s)) && ascends (pairs base w i (c - i)))
+      unfolding before
+      both-words =
           let low : base + 2 * (i - 1) ≡ base + 2 * i - 2 = omega arith in
           let high : base + 2 * (i - 1) + 1 ≡ base + 2 * i - 1 = omega arith in
           let next : suc (i - 1) ≡ i = omega arith in
           let turn = rw (high, low, next) at (compared (i - 1) (omega arith)) in
-          so-far .1 ∙ turn ∙ rw (← e, f-is, p-is)
+          so-far .1 ∙ turn ∙ rw (f-is, p-is, q-is, s-is)
 
-      -- by their first numbers, where these are not the same
-      pub pair-falls : f < p → false ≡ ascends (pairs base w 0 c)
-      pair-falls l = sym (both-words false (first-falls p _ f _ l))
+      pub pair-falls : not (ltb p f || (eqb p f && ltb q s)) ≡ true → false ≡ ascends (pairs base w 0 c)
+      pair-falls l = sym (both-words ∙ rw (not-true (ltb p f || (eqb p f && ltb q s)) l))
 
-      pub pair-rises : p ≤ f → (f ≡ p → ⊥) → Ascended (i + 1)
-      pair-rises l other =
+      pub pair-rises : not (ltb p f || (eqb p f && ltb q s)) ≡ false → Ascended (i + 1)
+      pair-rises l =
           let same : i + 1 - 1 ≡ i = omega arith in
-          (omega arith, rw same (both-words true (first-rises p _ f _ l other)))
+          (omega arith, rw same (both-words ∙ rw (not-false (ltb p f || (eqb p f && ltb q s)) l)))
 
-      module _ (s q : ℕ) (s-is : s ≡ track-word w (base + 2 * i + 1)) (q-is : q ≡ track-word w (base + 2 * i - 1))
-          (same-first : f ≡ p) where
-        -- and else by their second ones
-        pub pair-stays : s ≤ q → false ≡ ascends (pairs base w 0 c)
-        pair-stays l = sym (both-words false (rw (← s-is, ← q-is) (second-stays p q f s same-first l)))
-
-        pub pair-next : q < s → Ascended (i + 1)
-        pair-next l =
-            let same : i + 1 - 1 ≡ i = omega arith in
-            (omega arith, rw same (both-words true (rw (← s-is, ← q-is) (second-rises p q f s same-first l))))
-
--- a mark is of an event from 3 on, where it is odd
-module _ (m : ℕ) where
-  pub event-low : m < 3 → false ≡ is-event m
-  unfolding is-event
-  event-low h = simp (lt-leb 3 m h)
-
-  pub event-odd : 3 ≤ m → eqb (m % 2) 1 ≡ is-event m
-  unfolding is-event
-  event-odd h = simp (le-leb 3 m h)
-
-  pub event-least : is-event m ≡ true → 3 ≤ m
-  unfolding is-event
-  event-least e = leb-true 3 m (both (leb 3 m) _ e .0)
+-- a mark of an event is at least 3
+pub event-least : (m : ℕ) → is-event m ≡ true → 3 ≤ m
+unfolding is-event
+event-least m e = leb-true 3 m (both (leb 3 m) _ e .0)
 
 -- the test of a meeting: it is of one event, where its first number is the lower
 abbrev pub meets-well : List ℕ → List ℕ → Pair → Bool
 meets-well ps ms a = upward a && one-event ps (at ms (a .from)) (at ms (a .to))
 
-module _ (ps ms : List ℕ) {x y f s : ℕ} (f-is : f ≡ x) (s-is : s ≡ y) where
-  pub meeting-down : s ≤ f → meets-well ps ms (pair x y) ≡ false
-  unfolding upward
-  meeting-down h = rw (← f-is, ← s-is, le-ltb f s h)
-
-  pub meeting-up : f < s → {m n : ℕ} → m ≡ at ms f → n ≡ at ms s → {b : Bool} → b ≡ one-event ps m n
-      → b ≡ meets-well ps ms (pair x y)
-  unfolding upward
-  meeting-up h m-is n-is told = rw (← f-is, ← s-is, lt-ltb f s h, ← m-is, ← n-is) told
+pub meeting-told : (ps ms : List ℕ) {x y f s m n : ℕ} {one : Bool} → f ≡ x → s ≡ y → m ≡ at ms f → n ≡ at ms s
+    → one ≡ one-event ps m n → (ltb f s && one) ≡ meets-well ps ms (pair x y)
+unfolding upward
+meeting-told ps ms f-is s-is m-is n-is told = rw (← f-is, ← s-is, ← m-is, ← n-is, told)

@@ -1,8 +1,9 @@
--- All the rules, one behind the other, of columns that hold a graph: marks laid in front of a column are tested where they
--- stand, the walk's rule is its count's and its numbers', and every other rule is tested as it is told. Assumes nothing.
-use Prim.Native.Nat.{ℕ, suc, _+_, _≤_, _<_, min}
-use mathlib.Core.Path.{_≡_, refl, sym, ap, ap₂, _∙_}
-use mathlib.Core.Bool.{Bool, true, false, _&&_, not, and-assoc}
+-- All the rules, of a graph in columns. Nodes that have marks are references, so that the walk's rule is its count's and its
+-- numbers'. Where the columns hold a graph, its marks stand in front of their column and its pairs are read back, so that the
+-- rules of the columns are the graph's. Assumes nothing.
+use Prim.Native.Nat.{ℕ, zero, suc, _+_, _≤_, _<_, min}
+use mathlib.Core.Path.{_≡_, refl, sym, ap, _∙_}
+use mathlib.Core.Bool.{Bool, true, _&&_, not, and-assoc}
 use mathlib.Core.List.{List, [], _∷_}
 use native.Mathlib.Omega.{arith}
 use native.Mathlib.Nat.{add-zero, zero-add, add-suc, suc-add, min-eq-left}
@@ -10,18 +11,72 @@ use lib.ListN.{length, getD, replicate, length-replicate, List·getD-append}
 use lib.Seq.{sets-eq}
 use lib.Dec.{eqb}
 use Rattle.columns.proofs.Laws.{look-in}
-use Rattle.control.specs.words.Words.{reference-room}
 use Rattle.rules.specs.Track.{Pair}
-use Rattle.control.specs.words.Views.{pairs}
+use Rattle.rules.specs.Run.{node-room, arc-room, meeting-room}
+use Rattle.control.specs.words.Words.{reference-room}
+use Rattle.control.specs.words.Views.{arcs-of, meetings-of}
 use Rattle.graphs.specs.Graph.{Graph}
-use Rattle.graphs.specs.Shape.{every, ascends, upward, from-on}
+use Rattle.graphs.specs.Shape.{every, ascends, from-on}
 use Rattle.links.specs.words.Columns.{at}
-use Rattle.links.specs.code.Linked.{side-words, linked, all-fit}
+use Rattle.links.specs.code.Linked.{side-words, linked}
 use Rattle.walks.specs.code.Walked.{walked, numbers, laid}
-use Rattle.shapes.specs.code.Rules.{one-event, joins-events, as-walked, shaped}
-use Rattle.shapes.proofs.RuleTests.{rule-broken, rule-met, told-broken, told-met, told-equal}
-use Rattle.shapes.proofs.RuleTests.{told-other}
-use Rattle.shapes.proofs.WalkOrder.{Ordered, order-tested, walked-distinct}
+use Rattle.walks.proofs.LinkedWords.{marked, marked-inside}
+use Rattle.shapes.specs.code.Rules.{all-marked, meetings-fit, sides-fit, as-walked, has-shape, shaped}
+use Rattle.shapes.proofs.RuleTests.{and-where}
+use Rattle.shapes.proofs.WalkOrder.{every-number, Ordered, order-tested, walked-distinct}
+
+-- nodes that have marks are references
+nodes-inside : (ms : List ℕ) (n : ℕ) → all-marked ms n ≡ true → n ≤ reference-room
+unfolding marked
+nodes-inside ms zero h = omega arith
+nodes-inside ms (suc n) h =
+    let last = marked-inside ms [] [] (0 + n) (every-number _ 0 (suc n) h n (omega arith)) in
+    omega arith
+
+-- rules told one behind the other, of which two make one
+rules-same : {m m′ a a′ f f′ k k′ o o′ b b′ j j′ : Bool} → m ≡ m′ → a ≡ a′ → f ≡ f′ → k ≡ k′ → o ≡ o′ → b ≡ b′
+    → j ≡ j′ → ((((((m && a) && f) && k) && o) && b) && j) ≡ (m′ && (a′ && (f′ && ((k′ && o′) && (b′ && j′)))))
+rules-same p q r s t u v = rw (p, q, r, s, t, u, v) (simp and-assoc)
+
+-- n nodes, c arcs and d meetings in columns
+module _ (ks ps xs ms w : List ℕ) (n c d : ℕ) where
+  abbrev arcs : List Pair
+  arcs = arcs-of w (min c arc-room)
+
+  abbrev meetings : List Pair
+  meetings = meetings-of w (min d meeting-room)
+
+  -- the sides, and the walk's order
+  abbrev sides : List ℕ
+  sides = linked ms ks xs (replicate side-words 0) arcs
+
+  abbrev order : List ℕ
+  order = walked ms sides
+
+  -- the walk's rule is its count's and its numbers', where nodes have marks
+  walk-tested : (all-marked ms n && (ascends arcs && (sides-fit ks xs ms arcs
+      && ((eqb (length order) n && Ordered (numbers order) n) && (ascends meetings && meetings-fit ps ms meetings)))))
+      ≡ has-shape ks ps xs ms w n c d
+  unfolding has-shape as-walked
+  walk-tested =
+      and-where (all-marked ms n) (λ met.
+      ap (λ (b : Bool). ascends arcs
+      && (sides-fit ks xs ms arcs && (b && (ascends meetings && meetings-fit ps ms meetings))))
+      (order-tested order (walked-distinct ms sides) n (nodes-inside ms n met)))
+
+  -- all the rules as they are told
+  pub rules-tested : {m : Bool} → m ≡ all-marked ms n
+      → {k : ℕ} → k ≡ min c arc-room → {a : Bool} → a ≡ ascends (arcs-of w k)
+      → {f : Bool} {ss : List ℕ} → (f ≡ sides-fit ks xs ms arcs) × (ss ≡ sides)
+      → {count : ℕ} → count ≡ length (walked ms ss) → {ns : List ℕ} → ns ≡ numbers (walked ms ss)
+      → {o : Bool} → o ≡ Ordered ns n
+      → {l : ℕ} → l ≡ min d meeting-room → {b : Bool} → b ≡ ascends (meetings-of w l)
+      → {j : Bool} → j ≡ meetings-fit ps ms (meetings-of w l)
+      → ((((((m && a) && f) && eqb count n) && o) && b) && j) ≡ has-shape ks ps xs ms w n c d
+  rules-tested m k a link count ns o l b j =
+      rules-same m (rw k at a) (link .0) (ap (λ (i : ℕ). eqb i n) (rw (link .1) at count)) (rw (ns, link .1) at o)
+      (rw l at b) (rw l at j)
+      ∙ walk-tested
 
 -- words laid in front of a column stand there
 laid-word : (vs : List ℕ) (k : ℕ) → length vs ≤ reference-room → k < length vs → at (laid vs) k ≡ getD vs k 0
@@ -40,119 +95,14 @@ every-word t f (v ∷ vs) k h =
     let here : f k ≡ v = rw (add-zero k) at (h 0 (omega arith)) in
     rw (here, every-word t f vs (suc k) (λ i l. rw (suc-add k i, ← add-suc k i) (h (suc i) (omega arith))))
 
--- rules that are the same, one behind the other, where one of them is two of the others
-rules-same : {m m′ a a′ f f′ s b b′ j j′ : Bool} (c d : Bool) → m ≡ m′ → a ≡ a′ → f ≡ f′ → (c && d) ≡ s → b ≡ b′
-    → j ≡ j′ → (m && (a && (f && (c && (d && (b && j)))))) ≡ (m′ && (a′ && (f′ && (s && (b′ && j′)))))
-rules-same c d p q r v t u = rw (p, q, r, ← v, t, u, and-assoc c d)
-
--- columns that hold a graph of n nodes, and so many arcs and meetings
-module _ (n as′ mt : ℕ) (ks ps xs ls w : List ℕ) where
-  -- the sides, and the walk's order
-  abbrev sides : List ℕ
-  sides = linked ls ks xs (replicate side-words 0) (pairs 0 w 0 (min as′ 8192))
-
-  abbrev order : List ℕ
-  order = walked ls sides
-
-  -- the rules as they are tested, from each one on
-  abbrev joining : Bool
-  joining =
-      every upward (pairs 16384 w 0 mt)
-      && every (λ (a : Pair). one-event ps (at ls (a .from)) (at ls (a .to))) (pairs 16384 w 0 mt)
-
-  abbrev meeting : Bool
-  meeting = ascends (pairs 16384 w 0 mt) && joining
-
-  abbrev ordering : Bool
-  ordering = Ordered (numbers order) n && meeting
-
-  abbrev walking : Bool
-  walking = eqb (length order) n && ordering
-
-  abbrev fitting : Bool
-  fitting = all-fit ls ks xs (replicate side-words 0) (pairs 0 w 0 (min as′ 8192)) && walking
-
-  abbrev rising : Bool
-  rising = ascends (pairs 0 w 0 as′) && fitting
-
-  abbrev marking : Bool
-  marking = every (λ k. not (eqb (at ls k) 0)) (from-on 0 n) && rising
-
-  -- the answer is that of all rules, of the graph that the columns hold
-  abbrev Shape : Bool → Type 0
-  Shape r =
-      (marks : List ℕ) (g : Graph) → ls ≡ laid marks → length marks ≡ n → length (g .labels) ≡ n
-      → pairs 0 w 0 as′ ≡ g .arcs → pairs 16384 w 0 mt ≡ g .meetings → r ≡ shaped ks ps xs marks g
-
-  module _ (room : (n ≤ 4096) × (as′ ≤ 8192) × (mt ≤ 4096)) where
-    -- all the rules, as they are tested, are the rules of that graph
-    shape-tested : {r : Bool} → r ≡ marking → Shape r
-    unfolding shaped as-walked
-    shape-tested e marks g ls-are marks-count labels-count arcs-are meetings-are =
-        let arcs-same : pairs 0 w 0 (min as′ 8192) ≡ g .arcs =
-        ap (pairs 0 w 0) (min-eq-left (room .1)) ∙ arcs-are in
-        let marked = every-word (λ m. not (eqb m 0)) (at ls) marks 0
-        (λ i h. rw (zero-add i, ls-are) (laid-word marks i (omega arith) h)) in
-        e ∙ rules-same (eqb (length order) n) (Ordered (numbers order) n)
-        (ap (λ (k : ℕ). every (λ j. not (eqb (at ls j) 0)) (from-on 0 k)) (sym marks-count) ∙ marked)
-        (ap ascends arcs-are)
-        (ap₂ (λ (l : List ℕ) (p : List Pair). all-fit l ks xs (replicate side-words 0) p) ls-are arcs-same)
-        (order-tested order (walked-distinct ls sides) n (omega arith)
-        ∙ (ap₂ (λ (l : List ℕ) (p : List Pair). as-walked ks ps xs l n p) ls-are arcs-same
-        ∙ ap (λ (k : ℕ). as-walked ks ps xs (laid marks) k (g .arcs)) (sym labels-count)))
-        (ap ascends meetings-are)
-        (ap₂ (λ (l : List ℕ) (p : List Pair). every upward p && every (joins-events ks ps xs l) p) ls-are
-        meetings-are)
-
-    -- each rule in turn: where it is not met that is the answer, and where it is met the next one is tested
-    module _ {b : Bool} (marks-told : b ≡ every (λ k. not (eqb (at ls k) 0)) (from-on 0 n)) where
-      pub unmarked : not b ≡ true → Shape false
-      unmarked h = shape-tested (rule-broken _ (told-broken marks-told h))
-
-      module _ (marks-met : not b ≡ false) {c : Bool} (arcs-told : c ≡ ascends (pairs 0 w 0 as′)) where
-        to-arcs : {r : Bool} → r ≡ rising → Shape r
-        to-arcs e = shape-tested (rule-met (told-met marks-told marks-met) e)
-
-        pub arcs-unordered : not c ≡ true → Shape false
-        arcs-unordered h = to-arcs (rule-broken _ (told-broken arcs-told h))
-
-        module _ (arcs-met : not c ≡ false) {d : Bool} {s : List ℕ}
-            (link-told : (d ≡ all-fit ls ks xs (replicate side-words 0) (pairs 0 w 0 (min as′ 8192))) × (s ≡ sides))
-          where
-            to-sides : {r : Bool} → r ≡ fitting → Shape r
-            to-sides e = to-arcs (rule-met (told-met arcs-told arcs-met) e)
-
-            pub side-shared : not d ≡ true → Shape false
-            side-shared h = to-sides (rule-broken _ (told-broken (link-told .0) h))
-
-            module _ (sides-met : not d ≡ false) {k : ℕ} (count-told : k ≡ length (walked ls s)) where
-              counted : k ≡ length order
-              counted = count-told ∙ rw (link-told .1)
-
-              to-walk : {r : Bool} → r ≡ walking → Shape r
-              to-walk e = to-sides (rule-met (told-met (link-told .0) sides-met) e)
-
-              pub walk-partial : (k ≡ n → ⊥) → Shape false
-              walk-partial h = to-walk (rule-broken _ (told-other counted n h))
-
-              module _ (count-met : k ≡ n) {ns : List ℕ} (numbers-told : ns ≡ numbers (walked ls s)) {o : Bool}
-                  (order-told : o ≡ Ordered ns n) where
-                ordered : o ≡ Ordered (numbers order) n
-                ordered = order-told ∙ rw (numbers-told, link-told .1)
-
-                to-order : {r : Bool} → r ≡ ordering → Shape r
-                to-order e = to-walk (rule-met (told-equal counted n count-met) e)
-
-                pub walk-unordered : not o ≡ true → Shape false
-                walk-unordered h = to-order (rule-broken _ (told-broken ordered h))
-
-                module _ (order-met : not o ≡ false) {m : Bool} (meetings-told : m ≡ ascends (pairs 16384 w 0 mt))
-                  where
-                    to-meetings : {r : Bool} → r ≡ meeting → Shape r
-                    to-meetings e = to-order (rule-met (told-met ordered order-met) e)
-
-                    pub meetings-unordered : not m ≡ true → Shape false
-                    meetings-unordered h = to-meetings (rule-broken _ (told-broken meetings-told h))
-
-                    pub last-rules : not m ≡ false → {r : Bool} → r ≡ joining → Shape r
-                    last-rules h e = to-meetings (rule-met (told-met meetings-told h) e)
+-- columns with the marks and pairs of a graph within its rooms have the shape that the graph has
+pub shape-told : (ks ps xs marks w : List ℕ) (g : Graph) → length marks ≡ length (g .labels)
+    → arcs-of w (length (g .arcs)) ≡ g .arcs → meetings-of w (length (g .meetings)) ≡ g .meetings
+    → (length (g .labels) ≤ node-room) × (length (g .arcs) ≤ arc-room) × (length (g .meetings) ≤ meeting-room)
+    → has-shape ks ps xs (laid marks) w (length (g .labels)) (length (g .arcs)) (length (g .meetings))
+    ≡ shaped ks ps xs marks g
+unfolding has-shape shaped
+shape-told ks ps xs marks w g marks-count arcs-are meetings-are room =
+    let marks-stand = every-word (λ m. not (eqb m 0)) (at (laid marks)) marks 0
+    (λ i h. rw (zero-add i) (laid-word marks i (omega arith) h)) in
+    rw (min-eq-left (room .1), min-eq-left (room .2), arcs-are, meetings-are, ← marks-count, marks-stand)

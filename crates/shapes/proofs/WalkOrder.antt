@@ -67,7 +67,7 @@ from-on-at k (suc n) zero h = sym (add-zero k)
 from-on-at k (suc n) (suc i) h = from-on-at (suc k) n i (omega arith) ∙ (suc-add k i ∙ sym (add-suc k i))
 
 -- a test that every one of them passes, each passes, and the other way round
-every-number : (t : ℕ → Bool) (k n : ℕ) → every t (from-on k n) ≡ true → (i : ℕ) → i < n → t (k + i) ≡ true
+pub every-number : (t : ℕ → Bool) (k n : ℕ) → every t (from-on k n) ≡ true → (i : ℕ) → i < n → t (k + i) ≡ true
 unfolding every from-on
 every-number t k zero e i h = absurd (omega arith)
 every-number t k (suc n) e zero h = rw (add-zero k) (both (t k) _ e .0)

@@ -4,29 +4,30 @@ use columns::After;
 use columns::Kinds;
 use columns::Payloads;
 use control::MEETINGS_FROM;
+use control::REFERENCES;
 use control::Track;
 use control::track_word;
 use frames::TERM_ROOM;
 use links::Column;
+use links::SIDE_WORDS;
 use links::SideWords;
+use links::at_most;
 use links::link;
 use links::reference_word;
+use rules::ARC_ROOM;
+use rules::MEETING_ROOM;
 use walks::walk;
 ghost use mathlib.Core.Path.{_≡_};
-ghost use mathlib.Core.Bool.{_&&_, not};
-ghost use mathlib.Core.List.{List};
-ghost use Prim.Native.Nat.{ℕ, _+_, _≤_};
-ghost use lib.ListN.{length};
+ghost use Prim.Native.Nat.{_+_, _≤_};
+ghost use lib.ListN.{replicate};
 ghost use lib.Dec.{eqb};
-ghost use Rattle.rules.specs.Track.{Pair};
-ghost use Rattle.control.specs.words.Views.{pairs};
-ghost use Rattle.graphs.specs.Graph.{Graph};
-ghost use Rattle.graphs.specs.Shape.{every, ascends, upward, from-on};
+ghost use Rattle.control.specs.words.Views.{pairs, meetings-of};
+ghost use Rattle.graphs.specs.Shape.{every, ascends, from-on};
 ghost use Rattle.links.specs.words.Columns.{at};
-ghost use Rattle.walks.specs.code.Walked.{laid};
 ghost use Rattle.shapes.specs.code.Rules as of;
 
-// Whether a graph has the shape of a saved track. The last four are scratch.
+// Whether a graph has the shape of a saved track: all rules are tested, whichever is broken. The last four are scratch, and
+// all 0 afterwards.
 pub fn has_shape(
     nodes: usize,
     arcs: usize,
@@ -41,36 +42,46 @@ pub fn has_shape(
     numbers: &mut Column,
     walked: &mut Column,
 ) -> bool
-    requires { ⌜ (nodes ≤ 4096) × (arcs ≤ 8192) × (meetings ≤ 4096) ⌝ }
-    ensures { λ r. ⌜ ((marks : List ℕ) (g : Graph) → now (labels .entry) ≡ laid marks → length marks ≡ nodes
-        → length (g .labels) ≡ nodes → pairs 0 (now (graph .entry)) 0 arcs ≡ g .arcs
-        → pairs 16384 (now (graph .entry)) 0 meetings ≡ g .meetings
-        → r ≡ of.shaped (now (kinds .entry)) (now (payloads .entry)) (now (after .entry)) marks g) ⌝ }
+    ensures { λ r. ⌜ r ≡ of.has-shape (now (kinds .entry)) (now (payloads .entry)) (now (after .entry))
+        (now (labels .entry)) (now (graph .entry)) nodes arcs meetings ⌝ }
+    ensures { λ _. ⌜ now (sides .exit) ≡ replicate 16388 0 ⌝ }
+    ensures { λ _. ⌜ now (pending .exit) ≡ replicate 16388 0 ⌝ }
+    ensures { λ _. ⌜ now (numbers .exit) ≡ replicate 8193 0 ⌝ }
+    ensures { λ _. ⌜ now (walked .exit) ≡ replicate 8193 0 ⌝ }
 {
-    if !all_marked(nodes, labels) {
-        return false;
+    let fits = link(arcs, labels, graph, kinds, after, sides);
+    let reached = walk(labels, sides, numbers, walked, pending);
+    let ordered = in_order(nodes, numbers);
+    *sides = [0u16; SIDE_WORDS];
+    *numbers = [0u16; REFERENCES];
+    *walked = [0u16; REFERENCES];
+    let count = at_most(meetings, MEETING_ROOM);
+    all_marked(nodes, labels)
+        & ascend(0, at_most(arcs, ARC_ROOM), graph)
+        & fits
+        & (reached == nodes)
+        & ordered
+        & ascend(MEETINGS_FROM, count, graph)
+        & join_events(count, labels, graph, payloads)
+}
+
+// Whether the walk has given each node the number that it has.
+fn in_order(nodes: usize, numbers: &Column) -> bool
+    ensures { λ r. ⌜ r ≡ every (λ k. eqb (at (now (numbers .entry)) k) (k + 1)) (from-on 0 nodes) ⌝ }
+{
+    let mut k: usize = 0;
+    while k < nodes {
+        if reference_word(k, numbers) != k + 1 {
+            return false;
+        }
+        k += 1;
     }
-    if !ascend(0, arcs, graph) {
-        return false;
-    }
-    if !link(arcs, labels, graph, kinds, after, sides) {
-        return false;
-    }
-    if walk(labels, sides, numbers, walked, pending) != nodes {
-        return false;
-    }
-    if !in_order(nodes, numbers) {
-        return false;
-    }
-    if !ascend(MEETINGS_FROM, meetings, graph) {
-        return false;
-    }
-    join_events(meetings, labels, graph, payloads)
+    true
 }
 
 // Whether each node has a mark.
 fn all_marked(nodes: usize, labels: &Column) -> bool
-    ensures { λ r. ⌜ r ≡ every (λ k. not (eqb (at (now (labels .entry)) k) 0)) (from-on 0 nodes) ⌝ }
+    ensures { λ r. ⌜ r ≡ of.all-marked (now (labels .entry)) nodes ⌝ }
 {
     let mut k: usize = 0;
     while k < nodes {
@@ -92,29 +103,11 @@ fn ascend(base: usize, count: usize, graph: &Track) -> bool
         let at = base + 2 * i;
         let first = track_word(at, graph);
         let before = track_word(at - 2, graph);
-        if first < before {
+        let second_rises = track_word(at - 1, graph) < track_word(at + 1, graph);
+        if !((before < first) | ((before == first) & second_rises)) {
             return false;
-        }
-        if first == before {
-            if track_word(at + 1, graph) <= track_word(at - 1, graph) {
-                return false;
-            }
         }
         i += 1;
-    }
-    true
-}
-
-// Whether the walk has given each node the number that it has.
-fn in_order(nodes: usize, numbers: &Column) -> bool
-    ensures { λ r. ⌜ r ≡ every (λ k. eqb (at (now (numbers .entry)) k) (k + 1)) (from-on 0 nodes) ⌝ }
-{
-    let mut k: usize = 0;
-    while k < nodes {
-        if reference_word(k, numbers) != k + 1 {
-            return false;
-        }
-        k += 1;
     }
     true
 }
@@ -122,23 +115,20 @@ fn in_order(nodes: usize, numbers: &Column) -> bool
 // Whether so many meetings join event nodes of one event, the lower number first.
 fn join_events(meetings: usize, labels: &Column, graph: &Track, payloads: &Payloads) -> bool
     requires { ⌜ meetings ≤ 4096 ⌝ }
-    ensures { λ r. ⌜ r ≡ (every upward (pairs 16384 (now (graph .entry)) 0 meetings)
-        && every (λ (a : Pair). of.one-event (now (payloads .entry)) (at (now (labels .entry)) (a .from))
-        (at (now (labels .entry)) (a .to))) (pairs 16384 (now (graph .entry)) 0 meetings)) ⌝ }
+    ensures { λ r. ⌜ r ≡ of.meetings-fit (now (payloads .entry)) (now (labels .entry))
+        (meetings-of (now (graph .entry)) meetings) ⌝ }
 {
     let mut i: usize = 0;
     while i < meetings {
         let at = MEETINGS_FROM + 2 * i;
         let first = track_word(at, graph);
         let second = track_word(at + 1, graph);
-        if second <= first {
-            return false;
-        }
-        if !of_one_event(
+        let one = of_one_event(
             reference_word(first, labels),
             reference_word(second, labels),
             payloads,
-        ) {
+        );
+        if !((first < second) & one) {
             return false;
         }
         i += 1;
@@ -163,10 +153,7 @@ fn of_one_event(first: usize, second: usize, payloads: &Payloads) -> bool
 fn is_event(mark: usize) -> bool
     ensures { λ r. ⌜ r ≡ of.is-event mark ⌝ }
 {
-    if mark < 3 {
-        return false;
-    }
-    mark % 2 == 1
+    (3 <= mark) & (mark % 2 == 1)
 }
 
 // The event of such a mark.

@@ -312,6 +312,3 @@ module _ (l : Layout) (p x : List ℕ) (count n b : ℕ) (ks : List ℕ) (v : Pl
         other-fit = ready .fit .1;
         once = λ j. omega (arith, ready .once j);
       }
-
--- the same by either side
-module _ (l : Layout) (p x : List ℕ) (count n b : ℕ) (ks : List ℕ) (v : Place) (k : Split) (u : Words) where

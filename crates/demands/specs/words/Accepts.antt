@@ -9,9 +9,9 @@ use Rattle.rules.specs.declared.Event.{Event}
 use Rattle.rules.specs.Process.{Address}
 use Rattle.rules.specs.Run.{State, answer}
 use Rattle.rules.specs.Run as Run
-use Rattle.runs.specs.words.Held.{addressed}
+use Rattle.runs.specs.words.Held.{addressed, Words}
 use Rattle.runs.specs.declared.Answer.{Answer}
-use Rattle.demands.specs.words.Words.{Words, HoldsRun, Steps}
+use Rattle.demands.specs.words.Words.{HoldsRun, Steps}
 
 -- a step by an address that document 01 accepts, from words that hold a run, with an outcome that the step's promise allows
 pub record Accepts (p x : List ℕ) (t : Sofar) (v : Words) (r : Answer) (v′ : Words) (s : State) (e : Event) (s′ : State)

@@ -9,7 +9,8 @@ use Rattle.graphs.specs.Graph.{graph-of}
 use Rattle.graphs.specs.Saved.{saved}
 use Rattle.exchange.specs.Renamed.{renamed}
 use Rattle.writing.specs.declared.Saved.{Saved}
-use Rattle.demands.specs.words.Words.{Words, HoldsRun, SavesWords}
+use Rattle.runs.specs.words.Held.{Words}
+use Rattle.demands.specs.words.Words.{HoldsRun, SavesWords}
 use Rattle.demands.specs.words.Bytes.{bytes-of}
 use Rattle.runs.specs.declared.Answer.{Answer}
 use Rattle.runs.specs.declared.Answer.the-variants.{Refused}

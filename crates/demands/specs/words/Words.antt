@@ -11,7 +11,7 @@ use Rattle.columns.specs.words.Columns.{columns}
 use Rattle.rules.specs.Run.{State}
 use Rattle.plans.specs.code.Laid.{laid-out}
 use Rattle.plans.specs.words.Layout.{layout}
-use Rattle.runs.specs.words.Held.{Holds, Keeps}
+use Rattle.runs.specs.words.Held.{Words, Holds, Keeps}
 use Rattle.runs.specs.declared.Answer.{Answer}
 use Rattle.graphs.specs.Graph.{Graph}
 use Rattle.graphs.specs.Saved.{graph-text}
@@ -20,12 +20,6 @@ use Rattle.framing.specs.words.Told.{graph-told}
 use Rattle.writing.specs.words.Slice.{answer, left}
 use Rattle.writing.specs.declared.Saved.{Saved}
 use Rattle.saving.specs.words.Kept.{Saves}
-
--- what a run is lent: nodes, track and counters
-pub record Words : Type 0 where
-  pub nodes : List ℕ
-  pub track : List ℕ
-  pub counters : List ℕ
 
 -- the plan that is laid out from a table's columns, and the sets that go with it
 pub record Planned (p x : List ℕ) (t : Sofar) : Type 0 where
@@ -39,11 +33,11 @@ HoldsRun p x t v s = Holds (layout t) p x (definitions-of t) (v .nodes) (v .trac
 -- an outcome that a step by the first `count` of the digits may have
 abbrev pub Steps : List ℕ → List ℕ → List ℕ → ℕ → Words → Answer → Words → Type 0
 Steps p x ds count v r v′ =
-    Keeps p x count ds (v .nodes) (v .track) (v .counters) r (v′ .nodes) (v′ .track) (v′ .counters)
+    Keeps p x count ds v r v′
 
 -- an outcome that a save may have
 abbrev pub SavesWords : List ℕ → List ℕ → List ℕ → List ℕ → Words → List ℕ → Saved → List ℕ → Type 0
-SavesWords ks os xs rs v slice r slice′ = Saves ks os xs rs (v .nodes) (v .track) (v .counters) slice r slice′
+SavesWords ks os xs rs v slice r slice′ = Saves (columns ks os xs rs) v slice r slice′
 
 -- an outcome that writing a graph in columns may have
 abbrev pub Writes : Graph → List ℕ → Saved → List ℕ → Type 0

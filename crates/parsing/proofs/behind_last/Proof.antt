@@ -20,7 +20,7 @@ enum-told-3 c = search needs
 returns : tie.Need-returns
 returns c =
     let at-next-line = c .before .before in
-    behind-end _ _ _ (sym (at-next-line .next-line .ensures) ∙ c .enum-told .given .1) _
+    behind-end _ _ _ (sym (at-next-line .next-line .ensures) ∙ c .enum-told .given .1)
 
 returns-2 : tie.Need-returns-2
 returns-2 c =

@@ -3,7 +3,7 @@
 use native.Mathlib.Omega.{arith}
 use Rattle.lines.proofs.Laws.{not-found}
 use Rattle.parsing.proofs.Tested.{opening-length, opening-tag, opening-read}
-use Rattle.parsing.proofs.Turns.{held-line, begun-none, begun-stops, begun-outside, begun-inside}
+use Rattle.parsing.proofs.Turns.{held-line, opened-none, opened-stops, opened-outside, opened-inside}
 use borrow.Author.Needs.{needs}
 use Rattle.parsing.proofs.first_line.Statement.{statement}
 use Rattle.parsing.proofs.first_line.Tie as tie
@@ -20,7 +20,7 @@ refusal-of-requires c κs = search needs
 returns : tie.Need-returns
 returns c =
     let at-next-line = c .before .before in
-    begun-none _ (at-next-line .next-line .ensures) (not-found _ (c .before .match .keys2))
+    opened-none _ (at-next-line .next-line .ensures) (not-found _ (c .before .match .keys2))
     (c .refusal-of .ensures)
 
 characters-requires : tie.Need-characters-requires
@@ -32,7 +32,7 @@ returns-2 c =
     let at-next-line = at-line .before .before in
     let i = held-line _ 0 (at-next-line .next-line .ensures) (at-line .line .given .1)
     (c .before .characters .ensures) in
-    begun-stops _ i (opening-length _ _ (i .stands) (c .if1 .taken)) (λ q. omega (arith, q))
+    opened-stops _ i (opening-length _ _ (i .stands) (c .if1 .taken)) (λ q. omega (arith, q))
 
 byte-requires : tie.Need-byte-requires
 byte-requires c κs = search needs
@@ -44,7 +44,7 @@ returns-3 c =
     let at-next-line = at-line .before .before in
     let i = held-line _ 0 (at-next-line .next-line .ensures) (at-line .line .given .1)
     (at-characters .characters .ensures) in
-    begun-stops _ i (opening-tag _ _ (i .stands) (c .before .byte .ensures) (c .if2 .taken))
+    opened-stops _ i (opening-tag _ _ (i .stands) (c .before .byte .ensures) (c .if2 .taken))
     (λ q. omega (arith, q))
 
 number-at-requires : tie.Need-number-at-requires
@@ -81,7 +81,7 @@ returns-4 c =
     (at-number-at .number-at .ensures .0 _ (i .stands))
     (at-number-at2 .number-at2 .ensures .0 _ (i .stands))
     (at-number-at3 .number-at3 .ensures .0 _ (i .stands)) in
-    begun-outside _ i opens (c .before .counts-outside .ensures) (c .if3 .taken)
+    opened-outside _ i opens (c .before .counts-outside .ensures) (c .if3 .taken)
 
 returns-5 : tie.Need-returns-5
 returns-5 c =
@@ -102,7 +102,7 @@ returns-5 c =
     (at-number-at .number-at .ensures .0 _ (i .stands))
     (at-number-at2 .number-at2 .ensures .0 _ (i .stands))
     (at-number-at3 .number-at3 .ensures .0 _ (i .stands)) in
-    begun-inside _ i opens (c .before .counts-outside .ensures) (c .if3 .left)
+    opened-inside _ i opens (c .before .counts-outside .ensures) (c .if3 .left)
 
 pub first-line-spec : {M : Type 1} → statement M
 first-line-spec =

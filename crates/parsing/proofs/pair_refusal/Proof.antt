@@ -5,17 +5,13 @@ use Rattle.parsing.proofs.pair_refusal.Statement.{statement}
 use Rattle.parsing.proofs.pair_refusal.Tie as tie
 
 returns : tie.Need-returns
-returns c =
-    let entry = c .before .before in
-    λ bs e d. pair-length _ bs e d _ _ (entry .pre) (c .if1 .taken)
+returns c = λ bs e. pair-length _ bs e _ _ (c .if1 .taken)
 
 byte-requires : tie.Need-byte-requires
 byte-requires c κs = search needs
 
 returns-2 : tie.Need-returns-2
-returns-2 c =
-    let entry = c .before .before .before .before in
-    λ bs e d. pair-tag _ bs e d _ _ (entry .pre) (c .before .byte .ensures) (c .if2 .taken)
+returns-2 c = λ bs e. pair-tag _ bs e _ _ (c .before .byte .ensures) (c .if2 .taken)
 
 number-at-requires : tie.Need-number-at-requires
 number-at-requires c κs = search needs
@@ -25,9 +21,8 @@ returns-3 c =
     let at-if2 = c .before .before in
     let at-byte = at-if2 .before in
     let at-if1 = at-byte .before in
-    let entry = at-if1 .before .before in
-    λ bs e d.
-    from-past _ bs e d _ _ (entry .pre) (at-byte .byte .ensures) (at-if1 .if1 .left) (at-if2 .if2 .left)
+    λ bs e.
+    from-past _ bs e _ _ (at-byte .byte .ensures) (at-if1 .if1 .left) (at-if2 .if2 .left)
     (c .before .number-at .ensures .0 bs e) (c .if3 .taken)
 
 number-at-requires-2 : tie.Need-number-at-requires-2
@@ -40,9 +35,8 @@ returns-4 c =
     let at-if2 = at-number-at .before in
     let at-byte = at-if2 .before in
     let at-if1 = at-byte .before in
-    let entry = at-if1 .before .before in
-    λ bs e d.
-    to-past _ bs e d _ _ (entry .pre) (at-byte .byte .ensures) (at-if1 .if1 .left) (at-if2 .if2 .left)
+    λ bs e.
+    to-past _ bs e _ _ (at-byte .byte .ensures) (at-if1 .if1 .left) (at-if2 .if2 .left)
     (at-number-at .number-at .ensures .0 bs e) (at-if3 .if3 .left)
     (c .before .number-at2 .ensures .0 bs e) (c .if4 .taken)
 
@@ -53,9 +47,8 @@ returns-5 c =
     let at-if2 = at-number-at .before in
     let at-byte = at-if2 .before in
     let at-if1 = at-byte .before in
-    let entry = at-if1 .before .before in
-    λ bs e d.
-    pair-fits _ bs e d _ _ (entry .pre) (at-byte .byte .ensures) (at-if1 .if1 .left) (at-if2 .if2 .left)
+    λ bs e.
+    pair-fits _ bs e _ _ (at-byte .byte .ensures) (at-if1 .if1 .left) (at-if2 .if2 .left)
     (at-number-at .number-at .ensures .0 bs e) (at-if3 .if3 .left)
     (c .before .number-at2 .ensures .0 bs e) (c .if4 .left)
 

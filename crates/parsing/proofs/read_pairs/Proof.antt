@@ -1,71 +1,66 @@
--- `parsing::read_pairs` meets its contract. The loop's invariant: so many pairs are read, and the work goes on from
--- the cursor. The measure is how many are left. Assumes nothing.
-use Prim.Native.Nat.{ℕ, _-_, _≤_}
+-- `parsing::read_pairs` meets its contract. The loop's invariant: so many pairs are read, their numbers stand in the words,
+-- and all lines tell them with what the lines from the cursor on tell. The measure is how many are left. Assumes nothing.
+use Prim.Native.Nat.{_-_, _≤_}
 use mathlib.Core.Path.{refl}
 use native.Mathlib.Omega.{arith}
 use Rattle.lines.proofs.Laws.{not-found}
-use Rattle.parsing.specs.code.Phases.{PairsRead}
-use Rattle.parsing.proofs.Turns.{held-line, pairs-start, pairs-end, pairs-none, pairs-stop, pairs-turn}
+use Rattle.parsing.proofs.Turns.{held-line, all-read, none-ends, line-ends}
+use Rattle.parsing.proofs.Turns.{PairsSofar, pairs-none, pair-more}
 use borrow.Author.Needs.{needs}
 use Rattle.parsing.proofs.read_pairs.Statement.{statement}
 use Rattle.parsing.proofs.read_pairs.Tie as tie
 
 abbrev Inv-loop : tie.InvT-loop
 Inv-loop code base text from first count nodes graph₀ at₀ i₀ graph at i =
-    (i ≤ count) × ((d : ℕ) → PairsRead text d nodes code base count from first graph₀ graph i at)
+    (i ≤ count) × PairsSofar text code nodes count first from base graph₀ graph i at
 
 abbrev μ-loop : tie.MeasureT-loop
 μ-loop code base text from first count nodes graph₀ at₀ i₀ graph at i = count - i
 
 loop-holds : tie.Need-loop-holds Inv-loop μ-loop
-loop-holds c = (omega arith, λ d. pairs-start _ d _ _ _ _ _ _ _)
+loop-holds c = (omega arith, pairs-none _ _ _ _ _ _ _ _)
+
+add-line : tie.Need-add-line Inv-loop μ-loop
+add-line c = search needs
 
 next-line-requires : tie.Need-next-line-requires Inv-loop μ-loop
 next-line-requires c κs = search needs
 
-enum-known-line : tie.Need-enum-known-line Inv-loop μ-loop
-enum-known-line c = c .match .keys1
+enum-known-found : tie.Need-enum-known-found Inv-loop μ-loop
+enum-known-found c = c .match .keys1
 
 refusal-of-requires : tie.Need-refusal-of-requires Inv-loop μ-loop
 refusal-of-requires c κs = search needs
-
-add-t19 : tie.Need-add-t19 Inv-loop μ-loop
-add-t19 c = search needs
 
 returns : tie.Need-returns Inv-loop μ-loop
 returns c =
     let at-next-line = c .before .before in
     let at-loop-test = at-next-line .before in
     let at-loop = at-loop-test .before in
-    λ d.
-    pairs-none _ d _ _ _ _ _ _ _ (at-loop .loop .inv .1 d) (at-loop-test .loop-test .taken)
+    none-ends _ _ _ _ _ _ _ (at-loop .loop .inv .1) (at-loop-test .loop-test .taken)
     (at-next-line .next-line .ensures) (not-found _ (c .before .match .keys2))
     (c .refusal-of .ensures)
+    refl
 
 characters-requires : tie.Need-characters-requires Inv-loop μ-loop
 characters-requires c κs = search needs
 
 pair-refusal-requires : tie.Need-pair-refusal-requires Inv-loop μ-loop
-pair-refusal-requires c κs =
-    let entry = c .before .before .before .before .before .before .before .before in
-    entry .pre .3
-
-add-t20 : tie.Need-add-t20 Inv-loop μ-loop
-add-t20 c = search needs
+pair-refusal-requires c κs = search needs
 
 returns-2 : tie.Need-returns-2 Inv-loop μ-loop
 returns-2 c =
     let at-characters = c .before .before in
-    let at-line = at-characters .before .before in
-    let at-next-line = at-line .before .before in
+    let at-found = at-characters .before .before in
+    let at-next-line = at-found .before .before in
     let at-loop-test = at-next-line .before in
     let at-loop = at-loop-test .before in
-    let i = held-line _ _ (at-next-line .next-line .ensures) (at-line .line .given .1)
+    let i = held-line _ _ (at-next-line .next-line .ensures) (at-found .found .given .1)
     (at-characters .characters .ensures) in
-    λ d.
-    pairs-stop _ d _ _ _ _ _ _ _ (at-loop .loop .inv .1 d) (at-loop-test .loop-test .taken) i
-    (c .before .pair-refusal .ensures)
+    line-ends _ _ _ _ _ _ _ (at-loop .loop .inv .1) (at-loop-test .loop-test .taken) i
+    (c .before .pair-refusal .ensures _ (i .stands))
     (c .if1 .taken)
+    refl
 
 mul-word : tie.Need-mul-word Inv-loop μ-loop
 mul-word c = search needs
@@ -111,25 +106,21 @@ loop-again c =
     let at-if1 = c .before .before in
     let at-pair-refusal = at-if1 .before in
     let at-characters = at-pair-refusal .before in
-    let at-line = at-characters .before .before in
-    let at-next-line = at-line .before .before in
+    let at-found = at-characters .before .before in
+    let at-next-line = at-found .before .before in
     let at-loop-test = at-next-line .before in
     let at-loop = at-loop-test .before in
-    let entry = at-loop .before .before in
-    let i = held-line _ _ (at-next-line .next-line .ensures) (at-line .line .given .1)
+    let i = held-line _ _ (at-next-line .next-line .ensures) (at-found .found .given .1)
     (at-characters .characters .ensures) in (
       omega (arith, at-loop-test .loop-test .taken),
-      λ d.
-          pairs-turn _ d _ _ _ _ _ _ _ (at-loop .loop .inv .1 d) (at-loop-test .loop-test .taken) i
-          (at-pair-refusal .pair-refusal .ensures)
-          (entry .pre .3)
-          (at-if1 .if1 .left) (c .before .number-at .ensures .0) (c .before .number-at .ensures .1)
-          (c .number-at2 .ensures .0)
-          (c .number-at2 .ensures .1) refl refl,
+      pair-more _ _ _ _ _ _ _ _ (at-loop .loop .inv .1) (at-loop-test .loop-test .taken) i
+          (at-pair-refusal .pair-refusal .ensures _ (i .stands)) (at-if1 .if1 .left)
+          (c .before .number-at .ensures .0 _ (i .stands)) (c .before .number-at .ensures .1)
+          (c .number-at2 .ensures .0 _ (i .stands)) (c .number-at2 .ensures .1) refl refl,
     )
 
 returns-3 : tie.Need-returns-3 Inv-loop μ-loop
-returns-3 c = λ d. pairs-end _ d _ _ _ _ _ _ _ (c .before .loop .inv .0) (c .loop-test .left) (c .before .loop .inv .1 d)
+returns-3 c = all-read _ _ _ _ _ _ _ (c .before .loop .inv .1) (c .before .loop .inv .0) (c .loop-test .left)
 
 pub read-pairs-spec : {M : Type 1} → statement M
 read-pairs-spec =
@@ -138,14 +129,13 @@ read-pairs-spec =
     Inv-loop
     μ-loop
     loop-holds
+    add-line
     next-line-requires
-    enum-known-line
+    enum-known-found
     refusal-of-requires
-    add-t19
     returns
     characters-requires
     pair-refusal-requires
-    add-t20
     returns-2
     mul-word
     add-word

@@ -1,91 +1,86 @@
--- What each part of the line reading comes to: line 1, the nodes' lines, the pairs' lines and the last line. A part leads
--- the work on: what is due with it, from its first line, is what is due behind it, from where it ends; or it meets a refusal.
-use Prim.Native.Nat.{ℕ, _+_, _-_, _≤_}
-use mathlib.Core.Path.{_≡_}
+-- What each part of the line reading comes to, whatever it is handed: line 1, the nodes' lines, the pairs' lines and the last
+-- line. `proofs/Work.antt` shows that the parts, one behind the other, are document 01's reader.
+use Prim.Native.Nat.{ℕ, zero, suc, _+_}
 use mathlib.Core.List.{List, [], _∷_, _++_}
-use lib.ListN.{length, drop, replicate}
+use mathlib.Core.Option.{Option, none, some}
+use lib.ListN.{length, drop}
 use lib.Dec.{eqb}
-use lib.Seq.{sets}
-use Rattle.lines.specs.Line.{choose, lines}
+use Rattle.lines.specs.Line.{choose, Raw, lines, frame, characters}
 use Rattle.rules.specs.Track.{Label, Pair}
-use Rattle.rules.specs.Run.{node-room, arc-room, meeting-room}
-use Rattle.graphs.specs.Graph.{Graph}
-use Rattle.graphs.specs.Saved.{arc-code}
-use Rattle.graphs.specs.Parsed.{Due, a-node, an-arc, a-meeting, the-last, dues, nothing, Parsed, says}
-use Rattle.graphs.specs.Parsed.{refused, rest, parsed}
-use Rattle.links.specs.words.Columns.{flat}
-use Rattle.finding.specs.code.Found.{marks-of}
+use Rattle.graphs.specs.Parsed.{Frame, opening, node, arc, meeting, last, wrong, pair-at, formed, frame-of}
+use Rattle.graphs.specs.Parsed.{a-node, the-last, ends-below, unless, refusal, first-refusal, verdict}
+use Rattle.finding.specs.words.Node.{label-at}
 use Rattle.parsing.specs.declared.Opened.{Opened}
 use Rattle.parsing.specs.declared.Opened.the-variants.{Track, Fails}
 use Rattle.parsing.specs.declared.Lines.{Lines}
 use Rattle.parsing.specs.declared.Lines.the-variants.{Goes, Stops}
 
--- a graph of nodes alone
-abbrev pub labelled : List Label → Graph
-labelled ls = record { labels = ls; arcs = []; meetings = [] }
+-- a line that is due: it stops the work with the number that it meets, or leads it on, by its bytes, to the lines behind it
+module _ {A : Type 0} (stops : ℕ → A) (meets : List ℕ → ℕ) (leads : List ℕ → ℕ → List Raw → A) where
+  -- by its frame, where the next line begins at `next`: 1 where it is no line
+  unfoldable pub by-frame : ℕ → List Raw → Option (List ℕ) → A
+  by-frame next ls none = stops 1
+  by-frame next ls (some bs) = choose (eqb (meets bs) 0) (leads bs next ls) (stops (meets bs))
 
--- the pairs that a first byte stands for: what is due, and a graph with these of them
-unfoldable pub due-of : ℕ → Due
-due-of c = choose (eqb c arc-code) an-arc a-meeting
+  -- the first of the lines from `at` on: 2 where the text ends early
+  unfoldable pub line-read : ℕ → List Raw → A
+  line-read at [] = stops 2
+  line-read at (l ∷ ls) = by-frame (at + length (characters l) + 1) ls (frame l)
 
-unfoldable pub with-pairs : ℕ → Graph → List Pair → Graph
-with-pairs c g ps =
-    choose (eqb c arc-code) (record { labels = g .labels; arcs = ps; meetings = g .meetings })
-    (record { labels = g .labels; arcs = g .arcs; meetings = ps })
+-- line 1 by its frame, where the next line begins at `next`: the counts of a track
+unfoldable pub counts : ℕ → Frame → Opened
+counts next (opening e n a s) = Track n a s next
+counts next (node i w) = Fails 2
+counts next (arc a) = Fails 2
+counts next (meeting a) = Fails 2
+counts next last = Fails 2
+counts next wrong = Fails 2
 
-module _ (text : List ℕ) where
-  -- the work from a cursor on, in a track of n nodes for a table of d definitions
-  abbrev pub ahead : ℕ → ℕ → List Due → Graph → ℕ → ℕ → Parsed
-  ahead d n xs g line at = rest d n xs g line (lines (drop at text))
+-- line 1: the counts of a track, or the number that it meets
+unfoldable pub opened : List Raw → Opened
+opened = line-read Fails (λ bs. first-refusal (frame-of bs)) (λ bs next ls. counts next (frame-of bs)) 0
 
-  -- line 1: counts within their rooms, by which the work goes on
-  pub record Counted (n a s next : ℕ) : Type 0 where
-    pub nodes-fit : n ≤ node-room
-    pub arcs-fit : a ≤ arc-room
-    pub meetings-fit : s ≤ meeting-room
-    pub work : (d : ℕ) → parsed d text ≡ ahead d n (dues n a s) nothing 2 next
+-- lines of one kind: the answer, and what they have said as far as they were read
+pub record Told (A : Type 0) : Type 0 where
+  pub answer : Lines
+  pub said : List A
 
-  unfoldable pub Begun : Opened → Type 0
-  Begun (Track n a s next) = Counted n a s next
-  Begun (Fails k) = (d : ℕ) → parsed d text ≡ refused k 1
+-- a line that stops the work: what it tells is its number and its line
+abbrev pub told-stop : {A : Type 0} → ℕ → ℕ → Told A
+told-stop k r = record { answer = Stops r k; said = [] }
 
-  -- k of n nodes: their labels, and the column that holds their marks in front of what it held
-  pub record NodesRead (d n : ℕ) (ks xs rs : List ℕ) (from : ℕ) (old new : List ℕ) (k next : ℕ) : Type 0 where
-    pub said : List Label
-    pub counted : length said ≡ k
-    pub column : new ≡ sets old 0 (marks-of ks xs rs 0 said)
-    pub work : (ds : List Due)
-        → ahead d n (replicate n a-node ++ ds) nothing 2 from
-        ≡ ahead d n (replicate (n - k) a-node ++ ds) (labelled said) (k + 2) next
+-- what lines tell, behind what was said before them
+abbrev pub told-after : {A : Type 0} → List A → Told A → Told A
+told-after xs t = record { answer = t .answer; said = xs ++ t .said }
 
-  unfoldable pub NodesTold : ℕ → ℕ → List ℕ → List ℕ → List ℕ → ℕ → List ℕ → List ℕ → Lines → Type 0
-  NodesTold d n ks xs rs from old new (Goes next) = NodesRead d n ks xs rs from old new n next
-  NodesTold d n ks xs rs from old new (Stops k l) =
-      (ds : List Due) → ahead d n (replicate n a-node ++ ds) nothing 2 from ≡ refused k l
+module _ {A : Type 0} (meets : List ℕ → ℕ) (says : List ℕ → A) where
+  -- so many lines of one kind, the first of them line k, from `at` on
+  unfoldable pub lines-read : ℕ → ℕ → ℕ → List Raw → Told A
+  lines-read zero k at ls = record { answer = Goes at; said = [] }
+  lines-read (suc m) k at ls =
+      line-read (told-stop k) meets (λ bs next ls. told-after (says bs ∷ []) (lines-read m (k + 1) next ls)) at ls
 
-  -- i of m pairs, the first of them on a line of this number: they stand in the words from b on
-  pub record PairsRead (d n c b m from first : ℕ) (old new : List ℕ) (i next : ℕ) : Type 0 where
-    pub said : List Pair
-    pub counted : length said ≡ i
-    pub column : new ≡ sets old b (flat said)
-    pub work : (g : Graph) (ds : List Due)
-        → ahead d n (replicate m (due-of c) ++ ds) (with-pairs c g []) first from
-        ≡ ahead d n (replicate (m - i) (due-of c) ++ ds) (with-pairs c g said) (first + i) next
+-- the lines of n nodes, for a table of d definitions: line 2 and those behind it
+abbrev pub nodes-read : ℕ → ℕ → List ℕ → ℕ → Told Label
+nodes-read d n text at =
+    lines-read (λ bs. refusal d n a-node (frame-of bs)) label-at n 2 at (lines (drop at text))
 
-  unfoldable pub PairsTold : ℕ → ℕ → ℕ → ℕ → ℕ → ℕ → ℕ → List ℕ → List ℕ → Lines → Type 0
-  PairsTold d n c b m from first old new (Goes next) = PairsRead d n c b m from first old new m next
-  PairsTold d n c b m from first old new (Stops k l) =
-      (g : Graph) (ds : List Due)
-      → ahead d n (replicate m (due-of c) ++ ds) (with-pairs c g []) first from ≡ refused k l
+-- the number that a line meets where a pair of first byte c is due: 2 for another frame or length, 3 where an end is not
+-- below the node count
+unfoldable pub pair-refusal : ℕ → ℕ → List ℕ → ℕ
+pair-refusal n c bs = choose (formed c 5 bs) (unless (ends-below n (pair-at bs))) 2
 
-  -- the end, where these lines are due and nothing behind them
-  unfoldable pub EndTold : List Due → ℕ → ℕ → Lines → Type 0
-  EndTold xs at line (Goes next) = (d n : ℕ) (g : Graph) → ahead d n xs g line at ≡ says g
-  EndTold xs at line (Stops k l) = (d n : ℕ) (g : Graph) → ahead d n xs g line at ≡ refused k l
+-- the lines of m pairs of first byte c, in a track of n nodes: line k and those behind it
+abbrev pub pairs-read : ℕ → ℕ → ℕ → ℕ → List ℕ → ℕ → Told Pair
+pairs-read c n m k text at = lines-read (pair-refusal n c) pair-at m k at (lines (drop at text))
 
-  -- the last line, and what stands behind it
-  abbrev pub LastTold : ℕ → ℕ → Lines → Type 0
-  LastTold = EndTold (the-last ∷ [])
+-- behind the last line any line is a frame out of place
+unfoldable pub none-read : ℕ → ℕ → List Raw → Lines
+none-read k at [] = Goes at
+none-read k at (l ∷ ls) = Stops (verdict (λ f. 2) (frame l)) k
 
-  abbrev pub NoneTold : ℕ → ℕ → Lines → Type 0
-  NoneTold = EndTold []
+-- the last line, line k, and what stands behind it; no range bears on it
+unfoldable pub last-read : ℕ → ℕ → List Raw → Lines
+last-read k at ls =
+    line-read (λ r. Stops r k) (λ bs. refusal 0 0 the-last (frame-of bs)) (λ bs next ls. none-read (k + 1) next ls)
+    at ls

@@ -1,7 +1,8 @@
--- `reading::judge` meets its contract: lines that are refused decide; else the columns hold the graph that they say, and the
--- tests of the rules decide. Assumes nothing.
+-- `reading::judge` meets its contract: lines that are refused decide, and the scratch is cleared; else the columns hold the
+-- graph that they say, and the test of its shape decides, which leaves the scratch all 0. Assumes nothing.
+use mathlib.Core.Path.{refl}
 use borrow.Author.Needs.{needs}
-use Rattle.reading.proofs.Promises.{lines-refused, counts-fit, rules-decide}
+use Rattle.reading.proofs.Promises.{lines-refused, rules-decide}
 use Rattle.reading.proofs.judge.Statement.{statement}
 use Rattle.reading.proofs.judge.Tie as tie
 
@@ -15,27 +16,31 @@ enum-told : tie.Need-enum-told
 enum-told c = search needs
 
 returns : tie.Need-returns
-returns c = lines-refused _ _ _ _ _ _ _ (c .before .before .read-lines .ensures .0) (c .enum-told .given .1)
+returns c =
+    let told = c .before .before .before .before in
+    let judged = lines-refused _ _ _ _ _ _ _ (told .before .before .read-lines .ensures .0) (told .enum-told .given .1) in
+    (judged .0, (judged .1, (refl, (refl, (refl, refl)))))
 
 has-shape-requires : tie.Need-has-shape-requires
-has-shape-requires c κs =
-    let accepted = c .before .before .before .before .before .before .before in
-    let lines = accepted .before .before .read-lines .ensures in
-    counts-fit _ _ _ _ _ _ (lines .0) (lines .1) (accepted .read .given .1)
+has-shape-requires c κs = search needs
 
 returns-2 : tie.Need-returns-2
 returns-2 c =
     let accepted = c .before .before .before .before .before .before .before .before .before in
     let lines = accepted .before .before .read-lines .ensures in
-    rules-decide _ _ _ _ _ _ _ (lines .0) (lines .1) (accepted .read .given .1) (c .before .has-shape .ensures)
-    (c .if1 .taken)
+    let shape = c .before .has-shape .ensures in
+    let judged = rules-decide _ _ _ _ _ _ _ (lines .0) (lines .1) (accepted .read .given .1) (shape .0)
+    (c .if1 .taken) in
+    (judged .0, (judged .1, shape .1))
 
 returns-3 : tie.Need-returns-3
 returns-3 c =
     let accepted = c .before .before .before .before .before .before .before .before .before in
     let lines = accepted .before .before .read-lines .ensures in
-    rules-decide _ _ _ _ _ _ _ (lines .0) (lines .1) (accepted .read .given .1) (c .before .has-shape .ensures)
-    (c .if1 .left)
+    let shape = c .before .has-shape .ensures in
+    let judged = rules-decide _ _ _ _ _ _ _ (lines .0) (lines .1) (accepted .read .given .1) (shape .0)
+    (c .if1 .left) in
+    (judged .0, (judged .1, shape .1))
 
 pub judge-spec : {M : Type 1} → statement M
 judge-spec =

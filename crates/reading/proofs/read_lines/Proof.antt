@@ -1,11 +1,10 @@
 -- `reading::read_lines` meets its contract: the parts follow each other, and a law of `Gone` says what the text comes to at
 -- each way out. Assumes nothing.
-use mathlib.Core.Logic.{inl, inr}
 use mathlib.Core.Path.{refl}
 use native.Mathlib.Omega.{arith}
 use borrow.Author.Needs.{needs}
-use Rattle.reading.proofs.Gone.{counts, nodes-read, pairs-read, failed-done, nodes-stopped}
-use Rattle.reading.proofs.Gone.{arcs-stopped, meetings-stopped, last-stopped, all-done}
+use Rattle.reading.proofs.Gone.{counts, at-nodes, at-arcs, at-meetings, at-last}
+use Rattle.reading.proofs.Gone.{failed-done, stopped-done, all-done}
 use Rattle.reading.proofs.read_lines.Statement.{statement}
 use Rattle.reading.proofs.read_lines.Tie as tie
 
@@ -48,8 +47,8 @@ returns-2 c =
     let at-opened = at-read-nodes .before .before .before in
     let at-first-line = at-opened .before .before in
     let n = counts _ (at-first-line .first-line .ensures) (at-opened .opened .given .1) in
-    nodes-stopped _ _ _ _ _ n _ _ _ _ (at-read-nodes .read-nodes .ensures) (c .before .enum-told2 .given .1)
-    (c .refused .ensures)
+    stopped-done _ _ _ _ _ _ _ _ (at-nodes _ _ n) (at-read-nodes .read-nodes .ensures .0)
+    (c .before .enum-told2 .given .1) (c .refused .ensures)
 
 add-read-pairs : tie.Need-add-read-pairs
 add-read-pairs c =
@@ -63,7 +62,7 @@ read-pairs-requires c κs =
     let at-opened = c .before .before .before .before .before .before .before in
     let at-first-line = at-opened .before .before in
     let n = counts _ (at-first-line .first-line .ensures) (at-opened .opened .given .1) in
-    (n .arcs-fit, omega (arith, n .arcs-fit), omega (arith, n .nodes-fit), inl refl)
+    (omega (arith, n .arcs-fit), omega (arith, n .nodes-fit))
 
 enum-known-by-arcs : tie.Need-enum-known-by-arcs
 enum-known-by-arcs c = c .match3 .keys1
@@ -81,11 +80,10 @@ returns-3 c =
     let at-read-nodes = at-by-nodes .before .before in
     let at-opened = at-read-nodes .before .before .before in
     let at-first-line = at-opened .before .before in
-    let entry = at-first-line .before .before .before .before in
     let n = counts _ (at-first-line .first-line .ensures) (at-opened .opened .given .1) in
-    let labels = nodes-read _ _ _ _ _ _ _ _ _ _ (at-read-nodes .read-nodes .ensures)
-    (at-by-nodes .by-nodes .given .1) in
-    arcs-stopped _ _ _ _ _ n labels _ _ _ (at-read-pairs .read-pairs .ensures (entry .args .definitions))
+    stopped-done _ _ _ _ _ _ _ _
+    (at-arcs _ _ n (at-read-nodes .read-nodes .ensures .0) (at-by-nodes .by-nodes .given .1))
+    (at-read-pairs .read-pairs .ensures .0)
     (c .before .enum-told3 .given .1) (c .refused2 .ensures)
 
 add-line : tie.Need-add-line
@@ -109,12 +107,8 @@ read-pairs-requires-2 c κs =
     let at-known-told2 = c .before .before .before .before .before .before in
     let at-opened = at-known-told2 .before .before .before .before .before .before in
     let at-first-line = at-opened .before .before in
-    let n = counts _ (at-first-line .first-line .ensures) (at-opened .opened .given .1) in (
-      omega (arith, n .meetings-fit),
-      omega (arith, n .meetings-fit),
-      omega (arith, n .nodes-fit, n .arcs-fit),
-      inr refl,
-    )
+    let n = counts _ (at-first-line .first-line .ensures) (at-opened .opened .given .1) in
+    (omega (arith, n .meetings-fit), omega (arith, n .nodes-fit, n .arcs-fit))
 
 enum-known-by-meetings : tie.Need-enum-known-by-meetings
 enum-known-by-meetings c = c .match4 .keys1
@@ -134,16 +128,12 @@ returns-4 c =
     let at-read-nodes = at-by-nodes .before .before in
     let at-opened = at-read-nodes .before .before .before in
     let at-first-line = at-opened .before .before in
-    let entry = at-first-line .before .before .before .before in
     let n = counts _ (at-first-line .first-line .ensures) (at-opened .opened .given .1) in
-    let labels = nodes-read _ _ _ _ _ _ _ _ _ _ (at-read-nodes .read-nodes .ensures)
-    (at-by-nodes .by-nodes .given .1) in
-    let arcs = pairs-read _ _ _ _ _ _ _ _ _ _ _ (at-read-pairs .read-pairs .ensures (entry .args .definitions))
-    (at-by-arcs .by-arcs .given .1) in
-    meetings-stopped _ _ _ _ _ n labels arcs _ _ _
-    (at-read-pairs2 .read-pairs2 .ensures (entry .args .definitions))
-    (c .before .enum-told4 .given .1)
-    (c .refused3 .ensures)
+    stopped-done _ _ _ _ _ _ _ _
+    (at-meetings _ _ n (at-read-nodes .read-nodes .ensures .0) (at-by-nodes .by-nodes .given .1)
+    (at-read-pairs .read-pairs .ensures .0) (at-by-arcs .by-arcs .given .1))
+    (at-read-pairs2 .read-pairs2 .ensures .0)
+    (c .before .enum-told4 .given .1) (c .refused3 .ensures)
 
 add-last-lines : tie.Need-add-last-lines
 add-last-lines c =
@@ -183,16 +173,12 @@ returns-5 c =
     let at-read-nodes = at-by-nodes .before .before in
     let at-opened = at-read-nodes .before .before .before in
     let at-first-line = at-opened .before .before in
-    let entry = at-first-line .before .before .before .before in
     let n = counts _ (at-first-line .first-line .ensures) (at-opened .opened .given .1) in
-    let labels = nodes-read _ _ _ _ _ _ _ _ _ _ (at-read-nodes .read-nodes .ensures)
-    (at-by-nodes .by-nodes .given .1) in
-    let arcs = pairs-read _ _ _ _ _ _ _ _ _ _ _ (at-read-pairs .read-pairs .ensures (entry .args .definitions))
-    (at-by-arcs .by-arcs .given .1) in
-    let meetings = pairs-read _ _ _ _ _ _ _ _ _ _ _
-    (at-read-pairs2 .read-pairs2 .ensures (entry .args .definitions))
-    (at-by-meetings .by-meetings .given .1) in
-    last-stopped _ _ _ _ _ n labels arcs meetings _ (at-last-lines .last-lines .ensures)
+    stopped-done _ _ _ _ _ _ _ _
+    (at-last _ _ n (at-read-nodes .read-nodes .ensures .0) (at-by-nodes .by-nodes .given .1)
+    (at-read-pairs .read-pairs .ensures .0) (at-by-arcs .by-arcs .given .1)
+    (at-read-pairs2 .read-pairs2 .ensures .0) (at-by-meetings .by-meetings .given .1))
+    (at-last-lines .last-lines .ensures)
     (c .before .enum-told6 .given .1) (c .refused4 .ensures)
 
 returns-6 : tie.Need-returns-6
@@ -206,17 +192,13 @@ returns-6 c =
     let at-read-nodes = at-by-nodes .before .before in
     let at-opened = at-read-nodes .before .before .before in
     let at-first-line = at-opened .before .before in
-    let entry = at-first-line .before .before .before .before in
     let n = counts _ (at-first-line .first-line .ensures) (at-opened .opened .given .1) in
-    let labels = nodes-read _ _ _ _ _ _ _ _ _ _ (at-read-nodes .read-nodes .ensures)
-    (at-by-nodes .by-nodes .given .1) in
-    let arcs = pairs-read _ _ _ _ _ _ _ _ _ _ _ (at-read-pairs .read-pairs .ensures (entry .args .definitions))
-    (at-by-arcs .by-arcs .given .1) in
-    let meetings = pairs-read _ _ _ _ _ _ _ _ _ _ _
-    (at-read-pairs2 .read-pairs2 .ensures (entry .args .definitions))
-    (at-by-meetings .by-meetings .given .1) in
-    all-done _ _ _ _ _ n labels arcs meetings _ (at-last-lines .last-lines .ensures)
-    (c .enum-told5 .given .1) refl refl
+    all-done _ _ _ _ _ n (at-read-nodes .read-nodes .ensures .0) (at-by-nodes .by-nodes .given .1)
+    (at-read-pairs .read-pairs .ensures .0) (at-by-arcs .by-arcs .given .1)
+    (at-read-pairs2 .read-pairs2 .ensures .0) (at-by-meetings .by-meetings .given .1)
+    (at-last-lines .last-lines .ensures)
+    (c .enum-told5 .given .1) (at-read-nodes .read-nodes .ensures .1) refl
+    (at-read-pairs .read-pairs .ensures .1) refl (at-read-pairs2 .read-pairs2 .ensures .1)
 
 pub read-lines-spec : {M : Type 1} → statement M
 read-lines-spec =

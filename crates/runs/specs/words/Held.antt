@@ -83,13 +83,23 @@ unfoldable pub behind : State → Run.Answer → State
 behind s (Run.accepted e t) = t
 behind s (Run.refused n) = s
 
--- what a step owes a run: its answer is document 01's, and the words after it hold the state behind it
-abbrev pub Keeps : List ℕ → List ℕ → ℕ → List ℕ → List ℕ → List ℕ → List ℕ → Answer → List ℕ → List ℕ → List ℕ → Type 0
-Keeps p x count ds w g c r w′ g′ c′ =
-    (l : Layout) (ts : List Term) (s : State) → Table l p x ts → Holds l p x ts w g c s
+-- what a run is lent: nodes, track and counters
+pub record Words : Type 0 where
+  pub nodes : List ℕ
+  pub track : List ℕ
+  pub counters : List ℕ
+
+abbrev pub lent : List ℕ → List ℕ → List ℕ → Words
+lent w g c = record { nodes = w; track = g; counters = c }
+
+-- what a step by the first `count` of the digits owes a run: its answer is document 01's, and the words after it hold the
+-- state behind it
+abbrev pub Keeps : List ℕ → List ℕ → ℕ → List ℕ → Words → Answer → Words → Type 0
+Keeps p x count ds v r v′ =
+    (l : Layout) (ts : List Term) (s : State) → Table l p x ts → Holds l p x ts (v .nodes) (v .track) (v .counters) s
     → (r ≡ told (answered ts s (addressed ds count)))
-    × Holds l p x ts w′ g′ c′ (behind s (answered ts s (addressed ds count)))
+    × Holds l p x ts (v′ .nodes) (v′ .track) (v′ .counters) (behind s (answered ts s (addressed ds count)))
 
 -- what a start owes: the words hold a run of any table, at its start
-abbrev pub Begins : List ℕ → List ℕ → List ℕ → Type 0
-Begins w g c = (l : Layout) (p x : List ℕ) (ts : List Term) → Holds l p x ts w g c start
+abbrev pub Begins : Words → Type 0
+Begins v = (l : Layout) (p x : List ℕ) (ts : List Term) → Holds l p x ts (v .nodes) (v .track) (v .counters) start

@@ -1,11 +1,9 @@
 -- `shapes::ascend` meets its contract. The loop's invariant: all pairs so far ascend, so that the last of them and the
 -- rest tell of all. The measure is how many pairs are left. Assumes nothing.
 use Prim.Native.Nat.{_-_}
-use mathlib.Core.Logic.{⊎-elim}
 use borrow.Author.Needs.{needs}
 use native.Mathlib.Omega.{arith}
 use Rattle.shapes.proofs.RuleTests.{Ascended, none-compared, all-ascend, pair-falls, pair-rises}
-use Rattle.shapes.proofs.RuleTests.{pair-stays, pair-next}
 use Rattle.shapes.proofs.ascend.Statement.{statement}
 use Rattle.shapes.proofs.ascend.Tie as tie
 
@@ -33,32 +31,25 @@ sub-track-word c = omega (arith, c .before .before .loop .inv .0)
 track-word-requires-2 : tie.Need-track-word-requires-2 Inv-loop μ-loop
 track-word-requires-2 c κs = search needs
 
-returns : tie.Need-returns Inv-loop μ-loop
-returns c =
-    let tested = c .before .before .before in
-    pair-falls _ _ _ _ (tested .before .loop .inv) (tested .loop-test .taken) _ _
-    (c .before .before .track-word .ensures) (c .before .track-word2 .ensures) (c .if1 .taken)
-
-add-track-word : tie.Need-add-track-word Inv-loop μ-loop
-add-track-word c = omega arith
+sub-track-word-2 : tie.Need-sub-track-word-2 Inv-loop μ-loop
+sub-track-word-2 c = omega (arith, c .before .before .before .loop .inv .0)
 
 track-word-requires-3 : tie.Need-track-word-requires-3 Inv-loop μ-loop
 track-word-requires-3 c κs = search needs
 
-sub-track-word-2 : tie.Need-sub-track-word-2 Inv-loop μ-loop
-sub-track-word-2 c = omega arith
+add-track-word : tie.Need-add-track-word Inv-loop μ-loop
+add-track-word c = omega arith
 
 track-word-requires-4 : tie.Need-track-word-requires-4 Inv-loop μ-loop
 track-word-requires-4 c κs = search needs
 
-returns-2 : tie.Need-returns-2 Inv-loop μ-loop
-returns-2 c =
-    let same = c .before .before .before in
-    let first = same .before .before in
+returns : tie.Need-returns Inv-loop μ-loop
+returns c =
+    let second = c .before .before in
+    let first = second .before in
     let tested = first .before .before in
-    pair-stays _ _ _ _ (tested .before .loop .inv) (tested .loop-test .taken) _ _
-    (first .before .track-word .ensures) (first .track-word2 .ensures) _ _
-    (c .before .before .track-word3 .ensures) (c .before .track-word4 .ensures) (same .if2 .taken) (c .if3 .taken)
+    pair-falls _ _ _ _ (tested .before .loop .inv) (tested .loop-test .taken) (first .before .track-word .ensures)
+    (first .track-word2 .ensures) (second .track-word3 .ensures) (c .before .track-word4 .ensures) (c .if1 .taken)
 
 add-i : tie.Need-add-i Inv-loop μ-loop
 add-i c = omega arith
@@ -68,19 +59,14 @@ loop-less c = omega arith
 
 loop-again : tie.Need-loop-again Inv-loop μ-loop
 loop-again c =
-    let first = c .before .before in
+    let second = c .before .before in
+    let first = second .before in
     let tested = first .before .before in
-    let known = tested .before .loop .inv in
-    let more = tested .loop-test .taken in
-    let word = first .before .track-word .ensures in
-    let word-before = first .track-word2 .ensures in
-    ⊎-elim
-    (λ w. pair-next _ _ _ _ known more _ _ word word-before _ _ (w .1 .ensures) (w .2 .ensures) (w .0 .taken)
-    (w .3 .left))
-    (λ w. pair-rises _ _ _ _ known more _ _ word word-before (c .before .if1 .left) (w .left)) (c .if2 .came)
+    pair-rises _ _ _ _ (tested .before .loop .inv) (tested .loop-test .taken) (first .before .track-word .ensures)
+    (first .track-word2 .ensures) (second .track-word3 .ensures) (c .before .track-word4 .ensures) (c .if1 .left)
 
-returns-3 : tie.Need-returns-3 Inv-loop μ-loop
-returns-3 c = all-ascend _ _ _ _ (c .before .loop .inv) (c .loop-test .left)
+returns-2 : tie.Need-returns-2 Inv-loop μ-loop
+returns-2 c = all-ascend _ _ _ _ (c .before .loop .inv) (c .loop-test .left)
 
 pub ascend-spec : {M : Type 1} → statement M
 ascend-spec =
@@ -94,13 +80,12 @@ ascend-spec =
     track-word-requires
     sub-track-word
     track-word-requires-2
-    returns
-    add-track-word
-    track-word-requires-3
     sub-track-word-2
+    track-word-requires-3
+    add-track-word
     track-word-requires-4
-    returns-2
+    returns
     add-i
     loop-less
     loop-again
-    returns-3)
+    returns-2)

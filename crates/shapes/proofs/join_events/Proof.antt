@@ -6,8 +6,7 @@ use borrow.Author.Needs.{needs}
 use native.Mathlib.Omega.{arith}
 use Rattle.control.specs.words.Views.{pairs}
 use Rattle.shapes.proofs.RuleTests.{told-broken, told-met, pairs-listed, Passed, none-tested}
-use Rattle.shapes.proofs.RuleTests.{test-passed, test-failed, all-passed, every-both, meets-well}
-use Rattle.shapes.proofs.RuleTests.{meeting-down, meeting-up}
+use Rattle.shapes.proofs.RuleTests.{test-passed, test-failed, all-passed, every-both, meets-well, meeting-told}
 use Rattle.shapes.proofs.join_events.Statement.{statement}
 use Rattle.shapes.proofs.join_events.Tie as tie
 
@@ -35,13 +34,6 @@ add-track-word c = omega arith
 track-word-requires-2 : tie.Need-track-word-requires-2 Inv-loop μ-loop
 track-word-requires-2 c κs = search needs
 
-returns : tie.Need-returns Inv-loop μ-loop
-returns c =
-    let tested = c .before .before .before in
-    test-failed _ (pairs-listed 16384 _) _ _ (tested .before .loop .inv) (tested .loop-test .taken)
-    (meeting-down _ _ (c .before .before .track-word .ensures) (c .before .track-word2 .ensures) (c .if1 .taken))
-    ∙ every-both _ _ _
-
 reference-word-requires : tie.Need-reference-word-requires Inv-loop μ-loop
 reference-word-requires c κs = search needs
 
@@ -51,16 +43,15 @@ reference-word-requires-2 c κs = search needs
 of-one-event-requires : tie.Need-of-one-event-requires Inv-loop μ-loop
 of-one-event-requires c κs = search needs
 
-returns-2 : tie.Need-returns-2 Inv-loop μ-loop
-returns-2 c =
+returns : tie.Need-returns Inv-loop μ-loop
+returns c =
     let marks = c .before .before in
-    let up = marks .before .before in
-    let tested = up .before .before .before in
-    let joins = meeting-up _ _ (up .before .before .track-word .ensures) (up .before .track-word2 .ensures)
-    (up .if1 .left) (marks .before .reference-word .ensures) (marks .reference-word2 .ensures)
-    (c .before .of-one-event .ensures) in
+    let words = marks .before .before in
+    let tested = words .before .before in
+    let told = meeting-told _ _ (words .before .track-word .ensures) (words .track-word2 .ensures)
+    (marks .before .reference-word .ensures) (marks .reference-word2 .ensures) (c .before .of-one-event .ensures) in
     test-failed _ (pairs-listed 16384 _) _ _ (tested .before .loop .inv) (tested .loop-test .taken)
-    (told-broken joins (c .if2 .taken))
+    (told-broken told (c .if1 .taken))
     ∙ every-both _ _ _
 
 add-i : tie.Need-add-i Inv-loop μ-loop
@@ -72,16 +63,15 @@ loop-less c = omega arith
 loop-again : tie.Need-loop-again Inv-loop μ-loop
 loop-again c =
     let marks = c .before .before in
-    let up = marks .before .before in
-    let tested = up .before .before .before in
-    let joins = meeting-up _ _ (up .before .before .track-word .ensures) (up .before .track-word2 .ensures)
-    (up .if1 .left) (marks .before .reference-word .ensures) (marks .reference-word2 .ensures)
-    (c .before .of-one-event .ensures) in
+    let words = marks .before .before in
+    let tested = words .before .before in
+    let told = meeting-told _ _ (words .before .track-word .ensures) (words .track-word2 .ensures)
+    (marks .before .reference-word .ensures) (marks .reference-word2 .ensures) (c .before .of-one-event .ensures) in
     test-passed _ (pairs-listed 16384 _) _ _ (tested .before .loop .inv) (tested .loop-test .taken)
-    (told-met joins (c .if2 .left))
+    (told-met told (c .if1 .left))
 
-returns-3 : tie.Need-returns-3 Inv-loop μ-loop
-returns-3 c = all-passed _ (pairs-listed 16384 _) _ _ (c .before .loop .inv) (c .loop-test .left) ∙ every-both _ _ _
+returns-2 : tie.Need-returns-2 Inv-loop μ-loop
+returns-2 c = all-passed _ (pairs-listed 16384 _) _ _ (c .before .loop .inv) (c .loop-test .left) ∙ every-both _ _ _
 
 pub join-events-spec : {M : Type 1} → statement M
 join-events-spec =
@@ -95,12 +85,11 @@ join-events-spec =
     track-word-requires
     add-track-word
     track-word-requires-2
-    returns
     reference-word-requires
     reference-word-requires-2
     of-one-event-requires
-    returns-2
+    returns
     add-i
     loop-less
     loop-again
-    returns-3)
+    returns-2)

@@ -1,5 +1,5 @@
--- The reader's rules by marks, whatever the columns hold.
-use Prim.Native.Nat.{ℕ, _-_, _/_, _%_}
+-- The reader's rules by marks, whatever the columns hold: of a graph in columns, and of a graph whose nodes have marks.
+use Prim.Native.Nat.{ℕ, _-_, _/_, _%_, min}
 use mathlib.Core.Bool.{Bool, _&&_, not}
 use mathlib.Core.List.{List}
 use lib.ListN.{length, replicate}
@@ -7,6 +7,8 @@ use lib.Dec.{leb, eqb}
 use Rattle.frames.specs.TableFrame.{term-room}
 use Rattle.columns.specs.words.Columns.{look}
 use Rattle.rules.specs.Track.{Pair}
+use Rattle.rules.specs.Run.{arc-room, meeting-room}
+use Rattle.control.specs.words.Views.{arcs-of, meetings-of}
 use Rattle.graphs.specs.Graph.{Graph}
 use Rattle.graphs.specs.Shape.{same, every, ascends, upward, from-on}
 use Rattle.links.specs.words.Columns.{at}
@@ -25,20 +27,41 @@ event-at ps m = look term-room ps ((m - 3) / 2)
 unfoldable pub one-event : List ℕ → ℕ → ℕ → Bool
 one-event ps m n = is-event m && (is-event n && eqb (event-at ps m) (event-at ps n))
 
-module _ (ks ps xs ms : List ℕ) where
+-- each of n nodes has a mark
+abbrev pub all-marked : List ℕ → ℕ → Bool
+all-marked ms n = every (λ k. not (eqb (at ms k) 0)) (from-on 0 n)
+
+module _ (ps ms : List ℕ) where
+  -- a meeting joins event nodes of one event
   abbrev pub joins-events : Pair → Bool
   joins-events a = one-event ps (at ms (a .from)) (at ms (a .to))
+
+  -- meetings join event nodes of one event, the lower number first
+  abbrev pub meetings-fit : List Pair → Bool
+  meetings-fit bs = every upward bs && every joins-events bs
+
+module _ (ks xs ms : List ℕ) where
+  -- each arc leads to a side that is free
+  abbrev pub sides-fit : List Pair → Bool
+  sides-fit as′ = all-fit ms ks xs (replicate side-words 0) as′
 
   -- the walk numbers n nodes in the order that they have
   unfoldable pub as-walked : ℕ → List Pair → Bool
   as-walked n as′ = same (walked ms (linked ms ks xs (replicate side-words 0) as′)) (from-on 0 n)
 
+-- the rules of the arcs and meetings among n nodes
+abbrev pub pairs-fit : List ℕ → List ℕ → List ℕ → List ℕ → ℕ → List Pair → List Pair → Bool
+pairs-fit ks ps xs ms n as′ bs =
+    ascends as′
+    && (sides-fit ks xs ms as′ && (as-walked ks xs ms n as′ && (ascends bs && meetings-fit ps ms bs)))
+
+-- all the rules, of columns with n nodes, c arcs and d meetings, of which the arcs and meetings past the rooms do not count
+unfoldable pub has-shape : List ℕ → List ℕ → List ℕ → List ℕ → List ℕ → ℕ → ℕ → ℕ → Bool
+has-shape ks ps xs ms w n c d =
+    all-marked ms n && pairs-fit ks ps xs ms n (arcs-of w (min c arc-room)) (meetings-of w (min d meeting-room))
+
 -- all the rules, of a graph whose nodes have these marks
 unfoldable pub shaped : List ℕ → List ℕ → List ℕ → List ℕ → Graph → Bool
 shaped ks ps xs marks g =
     every (λ m. not (eqb m 0)) marks
-    && (ascends (g .arcs)
-    && (all-fit (laid marks) ks xs (replicate side-words 0) (g .arcs)
-    && (as-walked ks ps xs (laid marks) (length (g .labels)) (g .arcs)
-    && (ascends (g .meetings)
-    && (every upward (g .meetings) && every (joins-events ks ps xs (laid marks)) (g .meetings))))))
+    && pairs-fit ks ps xs (laid marks) (length (g .labels)) (g .arcs) (g .meetings)

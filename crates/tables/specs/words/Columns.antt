@@ -4,10 +4,12 @@ use Prim.Native.Nat.{ℕ, _-_}
 use mathlib.Core.List.{List, _++_, map}
 use lib.ListN.{length, replicate}
 use Rattle.frames.specs.TableFrame.{term-room, definition-room}
-use Rattle.tables.specs.Table.{Item, Sofar, Judged, accepted, refused}
+use Rattle.tables.specs.Table.{Item, Sofar, Judged, accepted, refused, judged}
 use Rattle.tables.specs.declared.Checked.{Checked}
 use Rattle.tables.specs.declared.Checked.the-variants.{Accepted, Refused}
 use Rattle.filling.specs.words.Preorder.{walked}
+use mathlib.Core.Path.{_≡_}
+use Rattle.columns.specs.words.Columns.{Columns}
 
 -- some numbers in an array of n, zeros behind them
 unfoldable pub column : ℕ → List ℕ → List ℕ
@@ -40,3 +42,12 @@ unfoldable pub answer : Judged → Checked
 answer (accepted s) =
     Accepted (record { definitions = s .definitions; events = s .events; terms = length (s .terms) })
 answer (refused n l) = Refused n l
+
+-- columns that the check of a table's text has left
+pub record Table-of (text : List ℕ) (c : Columns) (s : Sofar) : Type 0 where
+  pub checked : judged text ≡ accepted s
+  pub kinds-are : c .kinds ≡ kinds s
+  pub payloads-are : c .payloads ≡ payloads s
+  pub owners-are : c .owners ≡ owners s
+  pub after-are : c .after ≡ afters s
+  pub roots-are : c .roots ≡ roots s
