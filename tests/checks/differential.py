@@ -29,8 +29,8 @@ from tests.generators.families import DEFAULT_SEED, Families, told_counts
 from tests.independent import frames, rules, saved
 from tools.programs import Answer, answer_of, prepared
 
-WORKERS = 2
-INPUTS_AT_A_TIME = 20
+WORKERS = 4  # for two processors: some of them wait for a program's end
+INPUTS_AT_A_TIME = 2  # few, since inputs of one family stand together, and those at a room's edge take long
 FIRST_SECONDS = 60  # in which words come often
 SECONDS_BETWEEN_WORDS, SECONDS_BETWEEN_LATER_WORDS = 5, 30
 SHORT_INPUT = 1_000  # bytes that are shown as they are

@@ -23,6 +23,13 @@ pub fn kind_of(n: usize, kinds: &Kinds) -> u8
     if n < TERM_ROOM { kinds[n] } else { 0 }
 }
 
+// The set of a term, which is its payload.
+pub fn set_of(t: usize, sets: &Payloads) -> u64
+    ensures { λ r. ⌜ r ≡ look 1024 (now (sets .entry)) t ⌝ }
+{
+    if t < TERM_ROOM { sets[t] } else { 0 }
+}
+
 // The definition that a term stands in.
 pub fn owner_of(n: usize, owners: &Owners) -> u8
     ensures { λ r. ⌜ r ≡ look 1024 (now (owners .entry)) n ⌝ }

@@ -16,7 +16,7 @@ use Rattle.places.specs.Place.{Place}
 use Rattle.rules.specs.Process.{Split, choice, Process, leaf, prefix, internal, split, sequence, Ω, ⊥′, cells}
 use Rattle.plans.specs.words.Plan.{Layout, around}
 use Rattle.control.specs.words.Control.{label, term, frame, innermost, behind, Around, beyond, inside}
-use Rattle.control.specs.words.Control.{Stands, Rests, Splits, Follows, Holds}
+use Rattle.control.specs.words.Control.{Stands, Rests, Splits, Follows, HoldsControl}
 
 module _ (p w : List ℕ) where
   -- innermost sequence and frame behind it, by whether the plan has a sequence around the term
@@ -138,13 +138,13 @@ module _ (p w : List ℕ) where
 
 module _ (l : Layout) (p x w : List ℕ) where
   -- Ω has no sequences around it
-  pub end-alone : (n b : ℕ) (P : Process) (k : ℕ) (ks : List ℕ) → P ≡ Ω → Holds l p x w n b P (k ∷ ks) → ⊥
+  pub end-alone : (n b : ℕ) (P : Process) (k : ℕ) (ks : List ℕ) → P ≡ Ω → HoldsControl l p x w n b P (k ∷ ks) → ⊥
   end-alone n b P k ks e h =
-      let nil : k ∷ ks ≡ [] = subst (λ R. Holds l p x w n b R (k ∷ ks)) e h .2 in
+      let nil : k ∷ ks ≡ [] = subst (λ R. HoldsControl l p x w n b R (k ∷ ks)) e h .2 in
       let z : _≡_ {A = ℕ} 0 1 = cc in
       omega arith
 
-  pub holds-within : (n b : ℕ) (P : Process) (ks : List ℕ) → Holds l p x w n b P ks → b < n
+  pub holds-within : (n b : ℕ) (P : Process) (ks : List ℕ) → HoldsControl l p x w n b P ks → b < n
   holds-within n b (leaf v f) ks h = h .stands .within
   holds-within n b (prefix v e P) ks h = h .stands .within
   holds-within n b (internal v P Q) ks h = h .stands .within
@@ -197,7 +197,7 @@ module _ (l : Layout) (p x w : List ℕ) where
     }
 
     pub holds-dropped : (P : Process) (ks : List ℕ) → (P ≡ Ω → outer ≡ [])
-        → Holds l p x w n (inside p choice u m g) P ks → Holds l p x w n b P (ks ++ outer)
+        → HoldsControl l p x w n (inside p choice u m g) P ks → HoldsControl l p x w n b P (ks ++ outer)
     holds-dropped (leaf v f) ks last h = rests-dropped ks _ h
     holds-dropped (prefix v e P) ks last h = rests-dropped ks _ h
     holds-dropped (internal v P Q) ks last h = rests-dropped ks _ h
@@ -232,15 +232,15 @@ wrapped-cells P (q ∷ qs) = omega (arith, wrapped-cells (sequence (q .place) tr
 
 module _ (l : Layout) (p x w : List ℕ) where
   -- the sequences of numbers ks, one for one
-  abbrev pub Tells : List ℕ → List Awaiting → Type 0
-  Tells [] [] = Unit {0}
-  Tells [] (q ∷ qs) = ⊥
-  Tells (k ∷ ks) [] = ⊥
-  Tells (k ∷ ks) (q ∷ qs) = Follows l p x w k (q .place) (q .right) × Tells ks qs
+  abbrev pub TellsBehind : List ℕ → List Awaiting → Type 0
+  TellsBehind [] [] = Unit {0}
+  TellsBehind [] (q ∷ qs) = ⊥
+  TellsBehind (k ∷ ks) [] = ⊥
+  TellsBehind (k ∷ ks) (q ∷ qs) = Follows l p x w k (q .place) (q .right) × TellsBehind ks qs
 
   -- what has them around it is held inside them, and the other way round
-  pub wrapped-holds : (n b : ℕ) (P : Process) (ks : List ℕ) (qs : List Awaiting) (outer : List ℕ) → Tells ks qs
-      → Holds l p x w n b P (ks ++ outer) → Holds l p x w n b (wrapped P qs) outer
+  pub wrapped-holds : (n b : ℕ) (P : Process) (ks : List ℕ) (qs : List Awaiting) (outer : List ℕ) → TellsBehind ks qs
+      → HoldsControl l p x w n b P (ks ++ outer) → HoldsControl l p x w n b (wrapped P qs) outer
   unfolding wrapped
   wrapped-holds n b P [] [] outer t h = h
   wrapped-holds n b P [] (q ∷ qs) outer t h = absurd t

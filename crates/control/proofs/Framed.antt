@@ -21,7 +21,7 @@ use Rattle.plans.specs.words.Plan.{Layout, second, around}
 use Rattle.control.specs.words.Words.{node, put}
 use Rattle.control.specs.words.Control.{label, term, frame, innermost, behind, Around, inside}
 use Rattle.control.specs.words.Control.{first-cells, second-cells, Untouched, Stands, Rests, Splits}
-use Rattle.control.specs.words.Control.{Follows, Holds}
+use Rattle.control.specs.words.Control.{Follows, HoldsControl}
 use Rattle.control.proofs.NodeLaws.{put-other}
 
 -- the words of reference j are the same
@@ -174,7 +174,7 @@ module _ (l : Layout) (p x w w′ : List ℕ) (keeps : Lasting w w′) where
   inside-same n k same = rw (same 2 (omega arith), same 3 (omega arith))
 
   pub holds-framed : (n b : ℕ) (P : Process) (ks : List ℕ) → ((j : ℕ) → 1 ≤ held j n P → Same w w′ j)
-      → Holds l p x w n b P ks → Holds l p x w′ n b P ks
+      → HoldsControl l p x w n b P ks → HoldsControl l p x w′ n b P ks
   unfolding held
   holds-framed n b (leaf v f) ks same h = resting-framed n b ks _ same h
   holds-framed n b (prefix v e P) ks same h = resting-framed n b ks _ same h

@@ -31,7 +31,7 @@ use Rattle.graphs.proofs.Spelled.{Fits, says-text}
 use Rattle.graphs.proofs.Kept.{read-parts, saved-reads-back, read-writes-again, numbers-labelled}
 use Rattle.links.specs.words.Columns.{at, flat, counts-of}
 use Rattle.walks.specs.code.Walked.{laid}
-use Rattle.links.specs.declared.Counts.{Counts}
+use Rattle.links.specs.declared.GraphCounts.{GraphCounts}
 use Rattle.walks.proofs.Telling.{Telling, mark-told, labelled-told}
 use Rattle.links.proofs.Listed.{arcs-back, meetings-back}
 use Rattle.framing.specs.words.Told.{place-by, labels-told, graph-told}
@@ -149,7 +149,7 @@ module _ (text : List ℕ) (t : Sofar) (q : judged text ≡ accepted t) (lines :
   columns-tell = rw (labels-are, arcs-are, meetings-are)
 
 -- an accepted text says a graph, whose counts the answer has
-accepted-says : (o : Parsed) (n : Counts) → answer o ≡ Accepted n → (g : Graph) × (o ≡ says g) × (n ≡ counts-of g)
+accepted-says : (o : Parsed) (n : GraphCounts) → answer o ≡ Accepted n → (g : Graph) × (o ≡ says g) × (n ≡ counts-of g)
 unfolding answer
 accepted-says (says g) n e = (g, refl, let same : n ≡ counts-of g = cc in same)
 accepted-says (refused m k) n e = let z : _≡_ {A = ℕ} 0 1 = cc in absurd (omega arith)
@@ -169,7 +169,7 @@ module _ {text ks ps os xs rs : List ℕ} {d : ℕ} {t : Sofar} (table : Table-o
   module _ (lines labels graph labels′ graph′ : List ℕ) (r : Read)
       (reads : Reads d (read-columns ks ps xs rs) lines labels graph r labels′ graph′) where
     -- an accepted text says a graph, and the columns tell it
-    pub accepted-tells : (n : Counts) → r ≡ Accepted n
+    pub accepted-tells : (n : GraphCounts) → r ≡ Accepted n
         → (read (definitions-of t) lines ≡ says (told-by ks os xs rs labels′ graph′ n))
         × (n ≡ counts-of (told-by ks os xs rs labels′ graph′ n))
     accepted-tells n is =
@@ -200,7 +200,7 @@ module _ {text ks ps os xs rs : List ℕ} {d : ℕ} {t : Sofar} (table : Table-o
         go (refused m j) e f h = (f, h)
 
     -- "and writes again as the same text": whatever text was accepted, what is written of the columns is that text
-    pub writes-again : (n : Counts) → r ≡ Accepted n → (slice slice′ : List ℕ) (r′ : Saved)
+    pub writes-again : (n : GraphCounts) → r ≡ Accepted n → (slice slice′ : List ℕ) (r′ : Saved)
         → Writes (told-by ks os xs rs labels′ graph′ n) slice r′ slice′ → length lines ≤ length slice
         → bytes-of r′ slice′ ≡ lines
     writes-again n is slice slice′ r′ (ends, stands) long =

@@ -47,7 +47,7 @@ pub fn label(n: usize, mark: usize, tally: Tally, nodes: &mut Nodes) -> Tally
 }
 
 // Makes an arc.
-pub fn arc(from: usize, to: usize, tally: Tally, track: &mut Track) -> Tally
+fn arc(from: usize, to: usize, tally: Tally, track: &mut Track) -> Tally
     ensures { λ r. ⌜ r ≡ spec.one-arc tally ⌝ }
     ensures { λ _. ⌜ now (track .exit) ≡ spec.with-arc from to (tally .arcs) (now (track .entry)) ⌝ }
 {

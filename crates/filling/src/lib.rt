@@ -151,7 +151,7 @@ pub fn walk(kinds: &Kinds, count: usize, after: &mut After)
 }
 
 // The number of the term behind n terms and their subterms, from number j on.
-pub fn behind(n: u8, j: usize, after: &After) -> u16
+fn behind(n: u8, j: usize, after: &After) -> u16
     requires { ⌜ (n ≤ 2) × (j ≤ 1024) × (length (now after) ≡ 1024) ⌝ }
     ensures { λ r. ⌜ r ≡ past n j (now (after .entry)) ⌝ }
 {

@@ -18,7 +18,7 @@ use Rattle.frames.specs.TableFrame.{term-room, definition-room}
 use Rattle.tables.specs.Table.{Sofar, judged, accepted}
 use Rattle.tables.specs.words.Columns.{kinds, afters, roots}
 use Rattle.terms.specs.Term.{Term, leaf, prefix, binary, size, definitions-of}
-use Rattle.terms.specs.words.Held.{Holds}
+use Rattle.terms.specs.words.Held.{HoldsTerm}
 use Rattle.terms.proofs.Trees.{leaf-subterms, operator-subterms}
 use Rattle.terms.proofs.Held.{size-some, holds-behind}
 use Rattle.places.specs.Place.{Place, left-path, Literal, own, event, shifted, event-end, literal-at}
@@ -82,7 +82,7 @@ prefix-subterms = refl
 
 module _ (ks ps xs : List ℕ) where
   -- where columns hold a term, the mark at a path from it on is that of its literal there
-  find-held : (t : Term) (w : List ℕ) (i : ℕ) → Holds ks ps xs i t → i + size t ≤ term-room
+  find-held : (t : Term) (w : List ℕ) (i : ℕ) → HoldsTerm ks ps xs i t → i + size t ≤ term-room
       → find ks xs i w ≡ mark-of-literal i (literal-at t w)
   unfolding size literal-at mark-of-literal
   find-held (leaf l) [] i h b = find-here ks xs i (omega arith)

@@ -10,7 +10,7 @@ use native.Mathlib.Numerals.{add-one}
 use lib.ListN.{length, take, getD, length-take}
 use lib.Seq.{sets, sets-eq, length-sets, take-at, slice, slice-cons, slice-empty}
 use Rattle.lines.specs.Line.{two, hex, text, LF}
-use Rattle.spelling.specs.Puts.{Puts}
+use Rattle.spelling.specs.words.Puts.{Puts}
 use Rattle.spelling.proofs.Putting.{puts-then, Owed, owed-all, owed-less, owed-none}
 use Rattle.spelling.proofs.Spelt.{owed-line}
 use Rattle.rules.specs.Track.{Label, pair}

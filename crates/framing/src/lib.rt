@@ -24,7 +24,7 @@ ghost use mathlib.Core.Path.{_≡_};
 ghost use mathlib.Core.List.{[], _∷_, _++_, map};
 ghost use Prim.Native.Nat.{_+_, _*_, _≤_};
 ghost use Rattle.lines.specs.Line.{two, text, hex};
-ghost use Rattle.spelling.specs.Puts.{Puts};
+ghost use Rattle.spelling.specs.words.Puts.{Puts, number-cursor, line-cursor, pairs-cursor};
 ghost use Rattle.control.specs.words.Views.{pairs};
 ghost use Rattle.rules.specs.Track.{pair};
 ghost use Rattle.graphs.specs.Saved.{pair-frame, node-frame};
@@ -56,7 +56,7 @@ pub fn put_pairs(
     from: usize,
     out: &mut [u8],
 ) -> usize
-    requires { ⌜ (base ≤ 16384) × (count ≤ 8192) × (from ≤ 1500000) ⌝ }
+    requires { ⌜ (base ≤ 16384) × (count ≤ 8192) × (from ≤ pairs-cursor) ⌝ }
     ensures { λ r. ⌜ Puts from (text (map (pair-frame code) (pairs base (now (track .entry)) 0 count)))
         (now (out .entry)) (now (out .exit)) r ⌝ }
     ensures { λ r. ⌜ r ≡ from + 11 * count ⌝ }
@@ -79,7 +79,7 @@ pub fn put_pairs(
 
 // A line of a pair.
 fn put_pair(code: u8, first: usize, second: usize, at: usize, out: &mut [u8]) -> usize
-    requires { ⌜ at ≤ 2000000 ⌝ }
+    requires { ⌜ at ≤ line-cursor ⌝ }
     ensures { λ r. ⌜ Puts at (text (pair-frame code (pair first second) ∷ []))
         (now (out .entry)) (now (out .exit)) r ⌝ }
 {
@@ -91,7 +91,7 @@ fn put_pair(code: u8, first: usize, second: usize, at: usize, out: &mut [u8]) ->
 
 // `3f`.
 pub fn put_last(at: usize, out: &mut [u8]) -> usize
-    requires { ⌜ at ≤ 2000000 ⌝ }
+    requires { ⌜ at ≤ line-cursor ⌝ }
     ensures { λ r. ⌜ Puts at (text ((0x3f ∷ []) ∷ [])) (now (out .entry)) (now (out .exit)) r ⌝ }
 {
     let a = put_byte(at, TRACK_END_FRAME, out);
@@ -174,7 +174,7 @@ pub fn put_nodes(
 
 // Puts a node's line: `31 iiii dd ll path`.
 fn put_node(number: usize, placed: Placed, path: &Path, at: usize, out: &mut [u8]) -> usize
-    requires { ⌜ (length (now path) ≡ 64) × (told-length placed ≤ 64) × (at ≤ 2000000) ⌝ }
+    requires { ⌜ (length (now path) ≡ 64) × (told-length placed ≤ 64) × (at ≤ line-cursor) ⌝ }
     ensures { λ r. ⌜ Puts at (text ((0x31 ∷ two number ++ (told-definition placed ∷ told-length placed
         ∷ take (told-length placed) (now (path .entry)))) ∷ [])) (now (out .entry)) (now (out .exit)) r ⌝ }
 {
@@ -189,7 +189,7 @@ fn put_node(number: usize, placed: Placed, path: &Path, at: usize, out: &mut [u8
 
 // Puts the first digits of a path.
 fn put_path(path: &Path, count: usize, from: usize, out: &mut [u8]) -> usize
-    requires { ⌜ (length (now path) ≡ 64) × (count ≤ 64) × (from ≤ 2500000) ⌝ }
+    requires { ⌜ (length (now path) ≡ 64) × (count ≤ 64) × (from ≤ number-cursor) ⌝ }
     ensures { λ r. ⌜ Puts from (hex (take count (now (path .entry)))) (now (out .entry)) (now (out .exit)) r ⌝ }
 {
     let mut at = from;

@@ -1,6 +1,7 @@
 // Where a table's text ends in a program's input, and its script begins.
 use lines::LF;
 ghost use mathlib.Core.Path.{_≡_};
+ghost use lib.ListN.{replicate};
 ghost use Rattle.lines.specs.Line.{lines};
 ghost use Rattle.inputs.specs.Cut.{table-length, starts-1f};
 ghost use Rattle.inputs.specs.code.Lengths.{line-length};
@@ -27,6 +28,13 @@ pub fn table_end(text: &[u8]) -> usize
         at = next;
     }
     at
+}
+
+// Room for an input, all 0.
+pub fn input_room() -> [u8; INPUT_ROOM]
+    ensures { λ r. ⌜ r ≡ replicate 98305 0 ⌝ }
+{
+    [0u8; INPUT_ROOM]
 }
 
 // How many bytes a text's first line is, its line feed with it.

@@ -5,7 +5,7 @@ mod words;
 
 use frames::DEFINITION_ROOM;
 use frames::TERM_ROOM;
-use inputs::INPUT_ROOM;
+use inputs::input_room;
 use inputs::table_end;
 use tables::Checked;
 use tables::check;
@@ -14,7 +14,7 @@ use words::say_script;
 use words::say_table;
 
 fn main() {
-    let mut buffer = [0u8; INPUT_ROOM];
+    let mut buffer = input_room();
     let count = io::read_full(0, &mut buffer);
     judge(&buffer[..count]);
 }

@@ -13,9 +13,9 @@ use places::place;
 use scripts::DIGIT_ROOM;
 use scripts::Digits;
 use scripts::SCRIPT_TEXT_ROOM;
-use scripts::Step;
+use scripts::ScriptStep;
 use scripts::next_step;
-use tables::Counts;
+use tables::TableCounts;
 
 // The refusal that ends the work.
 pub fn say_refusal(what: &[u8], number: u8, line: usize) {
@@ -29,7 +29,7 @@ pub fn say_refusal(what: &[u8], number: u8, line: usize) {
 
 // What a table holds: its counts, its left-hand sides and its terms.
 pub fn say_table(
-    counts: Counts,
+    counts: TableCounts,
     kinds: &Kinds,
     payloads: &Payloads,
     owners: &Owners,
@@ -132,7 +132,7 @@ pub fn say_script(script: &[u8]) {
     let mut line: usize = 1;
     while line <= SCRIPT_TEXT_ROOM {
         let step = next_step(script, at, &mut digits);
-        let Step::Address { count, next } = step else {
+        let ScriptStep::Address { count, next } = step else {
             say_end(step, line);
             return;
         };
@@ -142,8 +142,8 @@ pub fn say_script(script: &[u8]) {
     }
 }
 
-fn say_end(step: Step, line: usize) {
-    if let Step::Refused(number) = step {
+fn say_end(step: ScriptStep, line: usize) {
+    if let ScriptStep::Refused(number) = step {
         say_refusal(b"script", number, line);
     }
 }

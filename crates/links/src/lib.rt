@@ -29,7 +29,7 @@ pub const SIDE_WORDS: usize = 16388;
 pub type SideWords = [u16; SIDE_WORDS];
 
 // How many nodes, arcs and meetings a graph has.
-pub struct Counts {
+pub struct GraphCounts {
     pub nodes: usize,
     pub arcs: usize,
     pub meetings: usize,
@@ -50,7 +50,7 @@ pub fn side_word(i: usize, sides: &SideWords) -> usize
 }
 
 // Puts word i of the sides.
-pub fn put_side_word(i: usize, value: usize, sides: &mut SideWords)
+fn put_side_word(i: usize, value: usize, sides: &mut SideWords)
     ensures { λ _. ⌜ now (sides .exit) ≡ words.put 16388 (now (sides .entry)) i value ⌝ }
 {
     if i < SIDE_WORDS {

@@ -12,7 +12,7 @@ use lib.Seq.{sets, sets-eq, length-sets, take-at}
 use lib.Dec.{leb}
 use borrow.Author.Tests.{leb-true, leb-false, le-leb, lt-leb}
 use Rattle.lines.specs.Line.{choose}
-use Rattle.spelling.specs.Puts.{Puts}
+use Rattle.spelling.specs.words.Puts.{Puts}
 use Rattle.writing.specs.words.Slice.{answer, left}
 use Rattle.writing.specs.declared.Saved.{Saved}
 use Rattle.writing.specs.declared.Saved.the-variants.{Written, Short}

@@ -25,7 +25,7 @@ use Rattle.runs.specs.declared.Answer.the-variants as Answers
 use Rattle.playing.specs.declared.Played.{Played}
 use Rattle.playing.specs.declared.Played.the-variants.{Stepped, Refused, End}
 use Rattle.playing.proofs.Played.{enum}
-use Rattle.spelling.specs.Puts.{Puts}
+use Rattle.spelling.specs.words.Puts.{Puts}
 use Rattle.spelling.proofs.Putting.{puts-then}
 use Rattle.spelling.proofs.Spelt.{text-append}
 use Rattle.listing.specs.Listing.{script-room}

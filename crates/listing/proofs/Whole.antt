@@ -10,7 +10,7 @@ use borrow.Author.Tests.{le-leb, lt-leb}
 use Rattle.lines.specs.Line.{lines, text, hex, two}
 use Rattle.tables.specs.Table.{Judged, accepted, refused, judged}
 use Rattle.tables.specs.words.Columns.{answer, left, kinds, payloads, owners, afters, roots}
-use Rattle.tables.specs.declared.Counts.{Counts}
+use Rattle.tables.specs.declared.TableCounts.{TableCounts}
 use Rattle.tables.specs.declared.Checked.{Checked}
 use Rattle.tables.specs.declared.Checked.the-variants.{Accepted, Refused}
 use Rattle.tables.proofs.Whole.{answer-refuses, answer-accepts}
@@ -23,7 +23,7 @@ use Rattle.runs.specs.words.Held.{lent as lent-words, Begins}
 use Rattle.saving.specs.code.Saving.{text-of}
 use Rattle.inputs.specs.Cut.{table-length, table-text}
 use Rattle.inputs.specs.Cut as Cut
-use Rattle.spelling.specs.Puts.{Puts}
+use Rattle.spelling.specs.words.Puts.{Puts}
 use Rattle.spelling.proofs.Putting.{puts-then}
 use Rattle.telling.specs.ListingFrame.{refusal-frame, alone, step-frame, status-frame}
 use Rattle.listing.specs.Listing.{script-room, within-room, table-listing, listing}
@@ -121,7 +121,7 @@ module _ (input : List ℕ) (end : ℕ) (ends : end ≡ table-length (lines inpu
         listed input (alone number line) (by-judged (refused number line) over) q
 
     -- the table is accepted, and the columns hold it
-    pub accepted-listed : (counts : Counts) (k₀ p₀ o₀ a₀ r₀ : List ℕ) {ks ps os xs rs : List ℕ}
+    pub accepted-listed : (counts : TableCounts) (k₀ p₀ o₀ a₀ r₀ : List ℕ) {ks ps os xs rs : List ℕ}
         → (checked ≡ answer (judged (take end input)))
         × ((ks ≡ left kinds (judged (take end input)) k₀) × ((ps ≡ left payloads (judged (take end input)) p₀)
         × ((os ≡ left owners (judged (take end input)) o₀) × ((xs ≡ left afters (judged (take end input)) a₀)

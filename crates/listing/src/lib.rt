@@ -43,7 +43,7 @@ ghost use Prim.Native.Nat.{_*_, _≤_};
 ghost use lib.ListN.{length};
 ghost use lib.Seq.{sets as put};
 ghost use Rattle.lines.specs.Line.{text};
-ghost use Rattle.spelling.specs.Puts.{Puts};
+ghost use Rattle.spelling.specs.words.Puts.{Puts, line-cursor};
 ghost use Rattle.saving.specs.code.Saving.{text-of};
 ghost use Rattle.listing.specs.Listing.{listing, within-room, script-room};
 ghost use Rattle.telling.specs.ListingFrame.{step-frame};
@@ -226,7 +226,7 @@ fn stopped(played: Played, line: usize, end: usize) -> Stop
 
 // Puts the refusal that ended a script, where there was one.
 fn put_stop(number: u8, line: usize, at: usize, out: &mut [u8]) -> usize
-    requires { ⌜ at ≤ 2000000 ⌝ }
+    requires { ⌜ at ≤ line-cursor ⌝ }
     ensures { λ r. ⌜ Puts at (of.stop-text number line) (now (out .entry)) (now (out .exit)) r ⌝ }
 {
     if number == 0 {
@@ -247,7 +247,7 @@ fn put_track(
     at: usize,
     out: &mut [u8],
 ) -> usize
-    requires { ⌜ at ≤ 2000000 ⌝ }
+    requires { ⌜ at ≤ line-cursor ⌝ }
     ensures { λ r. ⌜ Puts at (within-room (text-of (now (kinds .entry)) (now (owners .entry)) (now (after .entry))
         (now (roots .entry)) (now (nodes .entry)) (now (track .entry)) (now (counters .entry))))
         (now (out .entry)) (now (out .exit)) r ⌝ }
@@ -259,7 +259,7 @@ fn put_track(
     let mut pending = [0u16; SIDE_WORDS];
     let mut numbers = [0u16; REFERENCES];
     let mut spare = [0u16; TRACK_WORDS];
-    let mut saved_text = [0u8; SAVE_ROOM];
+    let mut saved_text = save_room();
     let saved = save(
         kinds,
         owners,
@@ -281,4 +281,11 @@ fn put_track(
         Saved::Short(_) => put_refusal(SLICE_TOO_SHORT, 0, at, out),
         Saved::Written(length) => put_copy(&saved_text, length, at, out),
     }
+}
+
+// Room for a saved track, as large as document 01 has it.
+fn save_room() -> [u8; SAVE_ROOM]
+    ensures { λ r. ⌜ length r ≡ 65536 ⌝ }
+{
+    [0u8; SAVE_ROOM]
 }

@@ -13,12 +13,11 @@ use lib.Dec.{eqb, leb}
 use borrow.Author.Tests.{lt-ltb, le-ltb, le-leb, eq-eqb, ne-eqb}
 use Rattle.lines.specs.Line.{choose}
 use Rattle.kinds.specs.Kind as Kind
-use Rattle.frames.specs.TableFrame.{term-room}
 use Rattle.control.specs.words.Words.{track-word}
 use Rattle.control.specs.words.Control as Control
 use Rattle.plans.specs.words.Plan.{around}
-use Rattle.looking.specs.code.Looking.{digit-at, is-split, is-side, taken, is-within, set-of, beyond}
-use Rattle.looking.specs.code.Looking.{inside, leads, parents}
+use Rattle.looking.specs.code.Looking.{digit-at, is-split, is-side, taken, is-within, beyond, inside}
+use Rattle.looking.specs.code.Looking.{leads, parents}
 
 -- a digit of an address
 module _ (ds : List ℕ) (count at : ℕ) where
@@ -79,15 +78,6 @@ module _ (nested : Bool) (o : ℕ) where
   pub within-plan : nested ≡ false → not (eqb o 0) ≡ is-within nested o
   unfolding is-within
   within-plan h = rw h
-
-module _ (x : List ℕ) (t : ℕ) where
-  pub set-in : t < term-room → getD x t 0 ≡ set-of x t
-  unfolding set-of
-  set-in h = simp (lt-ltb t term-room h)
-
-  pub set-out : term-room ≤ t → 0 ≡ set-of x t
-  unfolding set-of
-  set-out h = simp (le-ltb t term-room h)
 
 -- frames
 module _ (p : List ℕ) (t n f : ℕ) where

@@ -1,9 +1,7 @@
 // What a step looks up on its way: a digit, the side that it names, a split's set and frame, and the parents of two ended
 // sides. Nothing is written. It relies on the plan of the table and the words of the run.
-use columns::Payloads;
 use control::Track;
 use control::track_word;
-use frames::TERM_ROOM;
 use numbers::wide;
 use plans::EXTERNAL_WORD;
 use plans::PARALLEL_WORD;
@@ -60,13 +58,6 @@ pub fn is_within(nested: bool, around: usize) -> bool
         return true;
     }
     around != 0
-}
-
-// The set of a term.
-pub fn set_of(t: usize, sets: &Payloads) -> u64
-    ensures { λ r. ⌜ r ≡ spec.set-of (now (sets .entry)) t ⌝ }
-{
-    if t < TERM_ROOM { sets[t] } else { 0 }
 }
 
 // The frame of what is called or chosen inside a term: its reference where a sequence is around the term.

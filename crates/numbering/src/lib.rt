@@ -7,7 +7,7 @@ use control::REFERENCES;
 use control::TRACK_WORDS;
 use control::Track;
 use links::Column;
-use links::Counts;
+use links::GraphCounts;
 use links::SIDE_WORDS;
 use links::SideWords;
 use links::at_most;
@@ -42,7 +42,7 @@ pub fn number(
     pending: &mut SideWords,
     numbers: &mut Column,
     spare: &mut Track,
-) -> Counts
+) -> GraphCounts
     ensures { λ r. ⌜ (r .nodes ≡ length (of.order-by (now (marks .entry)) (now (kinds .entry)) (now (after .entry))
         (now (track .entry)) arcs meetings))
         × (r .arcs ≡ length (of.arcs-by (now (marks .entry)) (now (kinds .entry)) (now (after .entry))
@@ -88,7 +88,7 @@ pub fn number(
     *pending = [0u16; SIDE_WORDS];
     *numbers = [0u16; REFERENCES];
     *spare = [0u16; TRACK_WORDS];
-    Counts {
+    GraphCounts {
         nodes,
         arcs: arcs_out,
         meetings: meetings_out,

@@ -19,7 +19,7 @@ use Rattle.sets.proofs.Told.{same-members}
 use Rattle.offers.specs.declared.Offered.{Offered}
 use Rattle.rules.specs.declared.Status.{Status}
 use Rattle.offers.specs.code.Offering.{Offer, seen, settled, ended, offered, some-of, standing, status}
-use Rattle.offers.specs.words.Told.{offer-of, Low, Controls, starts, stands, Tells, Covers}
+use Rattle.offers.specs.words.Told.{offer-of, Low, Controls, starts, stands, TellsOffers, Covers}
 use Rattle.offers.proofs.Returns.{ended-not}
 use Rattle.offers.proofs.Standing.{nested, beyond-bound, ended-told, offers-told}
 
@@ -38,7 +38,7 @@ module _ (l : Layout) (p x w : List ℕ) (low : Low l) where
   run-ended n P (stands h m) = ended-told l p x w P n 0 [] h
 
   pub run-tells : (n : ℕ) (P : Process) (r : Offered) → seen r ≡ offered p x w n → Controls l p x w n P
-      → Tells r P
+      → TellsOffers r P
   run-tells n P r told c =
       let same = told ∙ run-offers n P c in record {
         tau-is = ap (λ (o : Offer). o .tau) same;

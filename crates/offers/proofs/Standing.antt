@@ -21,7 +21,7 @@ use Rattle.rules.specs.Step.{at-Ω}
 use Rattle.rules.specs.Offers.{offers-τ, offers-✓, offers-event}
 use Rattle.plans.specs.words.Plan.{Layout, kind, second, around}
 use Rattle.control.specs.words.Control.{state, term, frame, first, second-side, at-end, inside, split-kind}
-use Rattle.control.specs.words.Control.{split-set, Around, Untouched, Rests, Splits, Holds}
+use Rattle.control.specs.words.Control.{split-set, Around, Untouched, Rests, Splits, HoldsControl}
 use Rattle.offers.specs.code.Offering.{Offer, unseen, settled, combined, of-term, levels, followed}
 use Rattle.offers.specs.code.Offering.{bound, ended, at}
 use Rattle.offers.specs.words.Told.{offer-of, Low}
@@ -117,7 +117,7 @@ followed-told p w n d b (k ∷ ks) h = go (eqb (around p d) 0) refl
 
 module _ (l : Layout) (p x w : List ℕ) where
   -- what stands at a reference stands behind its bound
-  pub beyond-bound : (P : Process) (n b : ℕ) (ks : List ℕ) → Holds l p x w n b P ks → b < n
+  pub beyond-bound : (P : Process) (n b : ℕ) (ks : List ℕ) → HoldsControl l p x w n b P ks → b < n
   beyond-bound (leaf v f) n b ks h = h .stands .within
   beyond-bound (prefix v e P) n b ks h = h .stands .within
   beyond-bound (internal v P Q) n b ks h = h .stands .within
@@ -131,7 +131,7 @@ module _ (l : Layout) (p x w : List ℕ) where
   beyond-bound ⊥′ n b ks h = h .0 .within
 
   -- inside a sequence nothing is at Ω
-  inside-no-Ω : (P : Process) (n b k : ℕ) (ks : List ℕ) → Holds l p x w n b P (k ∷ ks) → at-Ω P ≡ false
+  inside-no-Ω : (P : Process) (n b k : ℕ) (ks : List ℕ) → HoldsControl l p x w n b P (k ∷ ks) → at-Ω P ≡ false
   unfolding at-Ω
   inside-no-Ω (leaf v f) n b k ks h = refl
   inside-no-Ω (prefix v e P) n b k ks h = refl
@@ -142,7 +142,7 @@ module _ (l : Layout) (p x w : List ℕ) where
   inside-no-Ω ⊥′ n b k ks h = refl
 
   -- the state tells whether a control is at Ω
-  pub end-told : (P : Process) (n b : ℕ) (ks : List ℕ) → Holds l p x w n b P ks
+  pub end-told : (P : Process) (n b : ℕ) (ks : List ℕ) → HoldsControl l p x w n b P ks
       → eqb (state w n) at-end ≡ at-Ω P
   unfolding at-Ω
   end-told (leaf v f) n b ks h = rw (h .rests)
@@ -158,7 +158,7 @@ module _ (l : Layout) (p x w : List ℕ) where
   end-told Ω n b ks h = rw (h .1)
   end-told ⊥′ n b ks h = rw (h .1)
 
-  pub ended-told : (P : Process) (n b : ℕ) (ks : List ℕ) → Holds l p x w n b P ks → ended w n ≡ at-Ω P
+  pub ended-told : (P : Process) (n b : ℕ) (ks : List ℕ) → HoldsControl l p x w n b P ks → ended w n ≡ at-Ω P
   ended-told P n b ks h =
       let above = beyond-bound P n b ks h in
       sym (ended-state w n (λ z. omega arith)) ∙ end-told P n b ks h
@@ -204,10 +204,10 @@ module _ (l : Layout) (p x w : List ℕ) where
 
     -- P's offers are told wherever it stands, in at least as many levels as it has cells
     abbrev Told : Process → Type 0
-    Told P = (n t b f : ℕ) (ks : List ℕ) → Holds l p x w n b P ks → cells P ≤ f
+    Told P = (n t b f : ℕ) (ks : List ℕ) → HoldsControl l p x w n b P ks → cells P ≤ f
         → at f p x w n t b ≡ settled (nested ks) (offer-of P)
 
-    stepped-side : (P : Process) → Told P → (f i j t c : ℕ) → cells P ≤ f → i ≡ j → Holds l p x w j c P []
+    stepped-side : (P : Process) → Told P → (f i j t c : ℕ) → cells P ≤ f → i ≡ j → HoldsControl l p x w j c P []
         → Side f i t c P
     unfolding nested settled
     stepped-side P told f i j t c m e h = rw e (told j t c f [] h m, ended-told P j c [] h)

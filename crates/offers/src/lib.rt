@@ -2,6 +2,7 @@
 // and the terms below it downward. Nothing is written. It relies on the plan of the table, the words of the run
 // and sets of events.
 use columns::Payloads;
+use columns::set_of;
 use control::ENTERED;
 use control::FIRST_SIDE;
 use control::FRAME;
@@ -32,14 +33,12 @@ use sets::shared;
 ghost use mathlib.Core.Path.{_≡_};
 ghost use mathlib.Core.Bool.{_&&_};
 ghost use Prim.Native.Nat.{ℕ};
-ghost use Rattle.frames.specs.TableFrame.{term-room};
-ghost use Rattle.columns.specs.words.Columns.{look};
 ghost use Rattle.rules.specs.Process.{Process};
 ghost use Rattle.rules.specs.Offers.{status};
 ghost use Rattle.plans.specs.words.Plan.{Layout};
 ghost use Rattle.offers.specs.code.Offering as code;
 ghost use Rattle.offers.specs.code.Offering.{seen};
-ghost use Rattle.offers.specs.words.Told.{Low, Controls, Tells, Covers};
+ghost use Rattle.offers.specs.words.Told.{Low, Controls, TellsOffers, Covers};
 
 // Whether τ and ✓ are offered, and which events.
 pub struct Offered {
@@ -56,7 +55,7 @@ pub fn offers(reference: usize, plan: &Plan, sets: &Payloads, nodes: &Nodes) -> 
     ensures { λ r. ⌜ seen r ≡
         code.offered (now (plan .entry)) (now (sets .entry)) (now (nodes .entry)) reference ⌝ }
     ensures { λ r. ⌜ ((l : Layout) (P : Process) → Low l
-        → Controls l (now (plan .entry)) (now (sets .entry)) (now (nodes .entry)) reference P → Tells r P) ⌝ }
+        → Controls l (now (plan .entry)) (now (sets .entry)) (now (nodes .entry)) reference P → TellsOffers r P) ⌝ }
 {
     if reference == 0 {
         return unseen(true, false);
@@ -268,11 +267,4 @@ fn first_of(t: usize) -> usize
     ensures { λ r. ⌜ r ≡ code.first-of t ⌝ }
 {
     if t < TERM_ROOM { t + 1 } else { 0 }
-}
-
-// A term's set.
-fn set_of(t: usize, sets: &Payloads) -> u64
-    ensures { λ r. ⌜ r ≡ look term-room (now (sets .entry)) t ⌝ }
-{
-    if t < TERM_ROOM { sets[t] } else { 0 }
 }

@@ -27,8 +27,8 @@ use Rattle.finding.specs.words.Node.{label-at}
 use Rattle.finding.proofs.FoundLaws.{marks-length}
 use Rattle.parsing.specs.code.Phases.{by-frame, line-read, counts, opened, Told, told-stop, told-after}
 use Rattle.parsing.specs.code.Phases.{lines-read, pair-refusal, none-read, last-read}
-use Rattle.parsing.specs.declared.Opened.{Opened}
-use Rattle.parsing.specs.declared.Opened.the-variants.{Track, Fails}
+use Rattle.parsing.specs.declared.TrackOpened.{TrackOpened}
+use Rattle.parsing.specs.declared.TrackOpened.the-variants.{Track, Fails}
 use Rattle.parsing.specs.declared.Lines.{Lines}
 use Rattle.parsing.specs.declared.Lines.the-variants.{Goes, Stops}
 use Rattle.parsing.proofs.Dues.{formed-parts, node-due, pair-formed}
@@ -95,7 +95,7 @@ module _ (text : List ℕ) where
   abbrev first-met : List ℕ → ℕ
   first-met bs = first-refusal (frame-of bs)
 
-  abbrev counted-on : List ℕ → ℕ → List Raw → Opened
+  abbrev counted-on : List ℕ → ℕ → List Raw → TrackOpened
   counted-on bs next ls = counts next (frame-of bs)
 
   pub opened-none : {l : Line} → l ≡ answer 0 (lines text) → NotFound l → {x : ℕ} → x ≡ line.refusal l

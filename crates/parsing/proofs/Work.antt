@@ -25,8 +25,8 @@ use Rattle.finding.specs.words.Node.{label-at}
 use Rattle.parsing.specs.code.Phases.{by-frame, line-read, counts, opened, Told, told-stop, told-after}
 use Rattle.parsing.specs.code.Phases.{lines-read, nodes-read, pair-refusal, pairs-read, none-read}
 use Rattle.parsing.specs.code.Phases.{last-read}
-use Rattle.parsing.specs.declared.Opened.{Opened}
-use Rattle.parsing.specs.declared.Opened.the-variants.{Track, Fails}
+use Rattle.parsing.specs.declared.TrackOpened.{TrackOpened}
+use Rattle.parsing.specs.declared.TrackOpened.the-variants.{Track, Fails}
 use Rattle.parsing.specs.declared.Lines.{Lines}
 use Rattle.parsing.specs.declared.Lines.the-variants.{Goes, Stops}
 use Rattle.parsing.proofs.Dues.{PairCode, due-of, with-pairs, node-due, pair-told, pair-taken}
@@ -143,7 +143,7 @@ module _ (d : ℕ) where
 
 -- line 1: the work goes on by its counts
 module _ (text : List ℕ) (d : ℕ) where
-  unfoldable pub begun : Opened → Parsed
+  unfoldable pub begun : TrackOpened → Parsed
   begun (Track n a s next) = rest d n (dues n a s) nothing 2 (lines (drop next text))
   begun (Fails r) = refused r 1
 
@@ -165,7 +165,7 @@ module _ (text : List ℕ) (d : ℕ) where
       (λ bs next z. counts-lead next (frame-of bs)) 0
 
 -- and they keep to the rooms of a run
-unfoldable pub Fits : Opened → Type 0
+unfoldable pub Fits : TrackOpened → Type 0
 Fits (Track n a s next) = (n ≤ node-room) × (a ≤ arc-room) × (s ≤ meeting-room)
 Fits (Fails r) = Unit {0}
 

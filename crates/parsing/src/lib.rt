@@ -40,7 +40,7 @@ ghost use Rattle.finding.specs.code.Found.{marks-of};
 ghost use Rattle.parsing.specs.code.Phases as of;
 
 // Line 1: the counts of a track, with the next line from `next` on; or the number of its refusal.
-pub enum Opened {
+pub enum TrackOpened {
     Track {
         nodes: usize,
         arcs: usize,
@@ -63,27 +63,27 @@ const NODE_HEAD: usize = 5;
 const FIRST_NODE: usize = 2;
 
 // Reads line 1.
-pub fn first_line(text: &[u8]) -> Opened
+pub fn first_line(text: &[u8]) -> TrackOpened
     ensures { λ r. ⌜ r ≡ of.opened (lines (now (text .entry))) ⌝ }
 {
     let line = next_line(text, 0);
     let Line::Found { end, next } = line else {
-        return Opened::Fails(refusal_of(line));
+        return TrackOpened::Fails(refusal_of(line));
     };
     let chars = characters(text, 0, end);
     if chars.len() != 16 {
-        return Opened::Fails(WRONG_FRAME);
+        return TrackOpened::Fails(WRONG_FRAME);
     }
     if byte(chars, 0) != TRACK_FRAME {
-        return Opened::Fails(WRONG_FRAME);
+        return TrackOpened::Fails(WRONG_FRAME);
     }
     let nodes = number_at(chars, 2);
     let arcs = number_at(chars, 4);
     let meetings = number_at(chars, 6);
     if counts_outside(byte(chars, 1), nodes, arcs, meetings) {
-        return Opened::Fails(OUT_OF_RANGE);
+        return TrackOpened::Fails(OUT_OF_RANGE);
     }
-    Opened::Track {
+    TrackOpened::Track {
         nodes,
         arcs,
         meetings,

@@ -19,7 +19,7 @@ use Rattle.kinds.specs.Kind.{subterms}
 use Rattle.tables.specs.Table.{Sofar, judged, accepted}
 use Rattle.tables.specs.words.Columns.{kinds, payloads, owners, afters, roots}
 use Rattle.terms.specs.Term.{Term, leaf, prefix, binary, size, Shallow, definitions-of}
-use Rattle.terms.specs.words.Held.{Holds}
+use Rattle.terms.specs.words.Held.{HoldsTerm}
 use Rattle.terms.proofs.Trees.{leaf-subterms, operator-subterms, each-at, checked-trees}
 use Rattle.terms.proofs.Held.{size-some, holds-behind, checked-holds}
 use Rattle.places.specs.Place.{path-in, term-at, IsPrefix, PrefixAt, event-path, left-path, Literal}
@@ -184,7 +184,7 @@ prefix-subterms = refl
 -- columns that hold a term
 module _ (ks ps xs : List ℕ) where
   -- hold its sides
-  side-held : {T t : Term} {x k : ℕ} (i : ℕ) → Side T x k t → Holds ks ps xs i T → Holds ks ps xs (i + k) t
+  side-held : {T t : Term} {x k : ℕ} (i : ℕ) → Side T x k t → HoldsTerm ks ps xs i T → HoldsTerm ks ps xs (i + k) t
   side-held i (only e t) h = rw add-one (h .3)
   side-held i (first o t u) h = rw add-one (h .3)
   side-held i (second o t u) h =
@@ -193,33 +193,33 @@ module _ (ks ps xs : List ℕ) where
 
   -- and its number n from there on
   pub holds-at : (t : Term) (n : ℕ) → n < size t
-      → (i : ℕ) → Holds ks ps xs i t → Holds ks ps xs (i + n) (term-at t n)
+      → (i : ℕ) → HoldsTerm ks ps xs i t → HoldsTerm ks ps xs (i + n) (term-at t n)
   holds-at =
-      by-number (λ t n. (i : ℕ) → Holds ks ps xs i t → Holds ks ps xs (i + n) (term-at t n))
+      by-number (λ t n. (i : ℕ) → HoldsTerm ks ps xs i t → HoldsTerm ks ps xs (i + n) (term-at t n))
       (λ t i h. rw (term-root t, add-zero i) h)
       λ T t x k n s h further i r.
       rw (side-at n s h .1, ← add-assoc i k n) (further (i + k) (side-held i s r))
 
   -- the kind is a prefix's exactly where the term is one
-  kind-is : (t : Term) (i : ℕ) → Holds ks ps xs i t → (getD ks i 0 ≡ Kind.prefix) ↔ IsPrefix t
+  kind-is : (t : Term) (i : ℕ) → HoldsTerm ks ps xs i t → (getD ks i 0 ≡ Kind.prefix) ↔ IsPrefix t
   kind-is (leaf l) i h =
       (λ e. omega (arith, leaf-subterms l, prefix-subterms, ap subterms (sym (h .0) ∙ e)), λ p. absurd p)
   kind-is (prefix e t) i h = (λ q. tt, λ p. h .0)
   kind-is (binary o t u) i h =
       (λ e. omega (arith, operator-subterms o, prefix-subterms, ap subterms (sym (h .0) ∙ e)), λ p. absurd p)
 
-  pub kind-at : (i : ℕ) (t : Term) (n : ℕ) → Holds ks ps xs i t → n < size t
+  pub kind-at : (i : ℕ) (t : Term) (n : ℕ) → HoldsTerm ks ps xs i t → n < size t
       → (getD ks (i + n) 0 ≡ Kind.prefix) ↔ PrefixAt t n
   kind-at i t n h b = kind-is (term-at t n) (i + n) (holds-at t n b i h)
 
   -- the step from a term to the side that number n stands in
-  second-at : (i : ℕ) (t : Term) → Holds ks ps xs (suc i) t → i + 1 < 1024
+  second-at : (i : ℕ) (t : Term) → HoldsTerm ks ps xs (suc i) t → i + 1 < 1024
       → i + (1 + size t) ≡ look 1024 xs (i + 1)
   second-at i t h b =
       let m : i + (1 + size t) ≡ getD xs (suc i) 0 = omega (arith, holds-behind ks ps xs (suc i) t h) in
       m ∙ rw (← add-one i) (look-in 1024 xs (i + 1) b)
 
-  side-step : {T t : Term} {x k : ℕ} (i j n : ℕ) → Side T x k t → Holds ks ps xs i T → i + size T ≤ 1024
+  side-step : {T t : Term} {x k : ℕ} (i j n : ℕ) → Side T x k t → HoldsTerm ks ps xs i T → i + size T ≤ 1024
       → n < size t → j ≡ i + (k + n) → (c : ℕ) → c ≡ subterms (getD ks i 0)
       → (c ≡ 0 → ⊥) × ((i + k ≡ next c xs i j) × (x ≡ digit c xs i j))
   unfolding size
@@ -235,7 +235,7 @@ module _ (ks ps xs : List ℕ) where
 
   -- following the columns gives number n's path
   abbrev Leads : Term → ℕ → Type 0
-  Leads t n = (i f : ℕ) → Holds ks ps xs i t → i + size t ≤ 1024 → length (path-in t n) ≤ f
+  Leads t n = (i f : ℕ) → HoldsTerm ks ps xs i t → i + size t ≤ 1024 → length (path-in t n) ≤ f
       → descended f ks xs i (i + n) ≡ some (path-in t n)
 
   leads-inward : (T t : Term) (x k n : ℕ) → Side T x k t → n < size t → Leads t n → Leads T (k + n)
@@ -251,14 +251,14 @@ module _ (ks ps xs : List ℕ) where
       descended-step _ ks xs i _ (λ e. omega arith) f _ x (i + k) refl refl (step .0) (step .1 .1) (step .1 .0)
       ∙ rw (at, j, further (i + k) f (side-held i s r) (omega arith) (omega (arith, ap length at)))
 
-  pub descended-path : (i : ℕ) (t : Term) (n f : ℕ) → Holds ks ps xs i t → i + size t ≤ 1024 → n < size t
+  pub descended-path : (i : ℕ) (t : Term) (n f : ℕ) → HoldsTerm ks ps xs i t → i + size t ≤ 1024 → n < size t
       → length (path-in t n) ≤ f → descended f ks xs i (i + n) ≡ some (path-in t n)
   descended-path i t n f r b h l =
       by-number Leads (λ t i f r b l. rw (path-root t) (descended-here f ks xs i (i + 0) (omega arith)))
       leads-inward t n h i f r b l
 
   -- and no path leads to a number behind the term
-  pub descended-past : (t : Term) (i j f : ℕ) → Holds ks ps xs i t → i + size t ≤ 1024 → i + size t ≤ j
+  pub descended-past : (t : Term) (i j f : ℕ) → HoldsTerm ks ps xs i t → i + size t ≤ 1024 → i + size t ≤ j
       → descended f ks xs i j ≡ none
   unfolding size below
   descended-past (leaf l) i j f h b past =
@@ -287,7 +287,7 @@ root c k = look 64 (c .roots) k
 -- columns that hold definition k, a term: with some column of payloads they hold the term at its root
 pub record Defined (c : Columns) (k : ℕ) (t : Term) : Type 0 where
   pub payloads : List ℕ
-  pub held : Holds (c .kinds) payloads (c .after) (root c k) t
+  pub held : HoldsTerm (c .kinds) payloads (c .after) (root c k) t
   pub fits : root c k + size t ≤ 1024
   pub owned : (j : ℕ) → root c k ≤ j → j < root c k + size t → look 1024 (c .owners) j ≡ k
   pub shallow : Shallow 0 t

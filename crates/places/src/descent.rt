@@ -1,7 +1,7 @@
 // Following terms downward: from a term to one of its subterms, a digit a step.
 use crate::Path;
 use crate::Reached;
-use crate::Step;
+use crate::StepDown;
 use columns::After;
 use columns::Kinds;
 use columns::after_of;
@@ -50,26 +50,26 @@ pub fn descend(
 }
 
 // The subterm of a term that `to` stands in, where the term has so many.
-fn step_to(from: usize, to: usize, count: u8, after: &After) -> Step
+fn step_to(from: usize, to: usize, count: u8, after: &After) -> StepDown
     requires { ⌜ from < 1024 ⌝ }
     ensures { λ r. ⌜ (r .next ≡ code.next count (now (after .entry)) from to)
         × (r .digit ≡ code.digit count (now (after .entry)) from to) ⌝ }
 {
     let first = from + 1;
     if count != 2 {
-        return Step {
+        return StepDown {
             next: first,
             digit: 2,
         };
     }
     let second = after_of(first, after);
     if second <= to {
-        return Step {
+        return StepDown {
             next: second,
             digit: 2,
         };
     }
-    Step {
+    StepDown {
         next: first,
         digit: 1,
     }

@@ -45,7 +45,7 @@ pub enum Reached {
 }
 
 // A step downward: the subterm, and its digit.
-pub struct Step {
+pub struct StepDown {
     pub next: usize,
     pub digit: u8,
 }

@@ -11,7 +11,7 @@ use Rattle.frames.specs.TableFrame.{definition-room}
 use Rattle.tables.specs.Table.{Sofar, accepted, judged}
 use Rattle.tables.specs.words.Columns.{column, kinds, payloads, afters, roots}
 use Rattle.terms.specs.Term.{Term, size, flat, starts, definitions-of}
-use Rattle.terms.specs.words.Held.{Holds}
+use Rattle.terms.specs.words.Held.{HoldsTerm}
 use Rattle.terms.proofs.Trees.{flat-length, each-at, checked-trees}
 use Rattle.terms.proofs.Held.{Forest, checked-holds}
 use Rattle.columns.specs.words.Columns.{look}
@@ -34,7 +34,7 @@ listed (u ∷ ts) i (suc k) t e = let r = listed ts (i + size u) k t e in (omega
 
 -- definitions that are held each from its root on are held one behind the other
 forest-of : (ks ps xs : List ℕ) (ts : List Term) (d i n : ℕ) → n ≡ i + length (flat d ts)
-    → ((k : ℕ) (t : Term) → getElem? ts k ≡ some t → Holds ks ps xs (getD (starts i ts) k 0) t)
+    → ((k : ℕ) (t : Term) → getElem? ts k ≡ some t → HoldsTerm ks ps xs (getD (starts i ts) k 0) t)
     → Forest ks ps xs i ts n
 unfolding flat starts
 forest-of ks ps xs [] d i n e held = omega arith
@@ -87,7 +87,7 @@ module _ (text : List ℕ) (s : Sofar) (q : judged text ≡ accepted s) where
 -- the plan that is laid out from a checked table's columns holds its definitions, at the places that
 -- `places::place` tells
 pub checked-planned : (text : List ℕ) (s : Sofar) → judged text ≡ accepted s
-    → Plan.Holds (layout s)
+    → Plan.HoldsTable (layout s)
     (laid-out (length (s .terms)) (kinds s) (payloads s) (afters s) (roots s)) (payloads s) (definitions-of s)
 unfolding layout
 checked-planned text s q k t e =

@@ -14,7 +14,7 @@ use Rattle.kinds.specs.Kind.{subterms}
 use Rattle.terms.specs.Term.{Leaf, call, SKIP, STOP, leaf-kind, leaf-payload, Operator, internal, external}
 use Rattle.terms.specs.Term.{sequence, parallel, operator-kind, Term, leaf, prefix, binary, size, starts}
 use Rattle.terms.specs.Term.{Within}
-use Rattle.terms.specs.words.Held.{Holds}
+use Rattle.terms.specs.words.Held.{HoldsTerm}
 use Rattle.terms.proofs.Trees.{leaf-subterms, operator-subterms}
 use Rattle.terms.proofs.Held.{size-some, holds-behind, Forest}
 use Rattle.columns.specs.words.Columns.{look}
@@ -81,7 +81,7 @@ module _ (ks ps xs rs : List ℕ) where
 
   -- the columns hold a tree from number i on
   abbrev pub Tree : ℕ → Term → Type 0
-  Tree i t = Holds ks ps xs i t × (i + size t ≤ term-room)
+  Tree i t = HoldsTerm ks ps xs i t × (i + size t ≤ term-room)
 
   -- the second subterm's number
   second-at : (i : ℕ) (o : Operator) (t u : Term) → Tree i (binary o t u)

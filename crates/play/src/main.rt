@@ -15,7 +15,7 @@ use control::TRACK_WORDS;
 use control::Track;
 use frames::DEFINITION_ROOM;
 use frames::TERM_ROOM;
-use inputs::INPUT_ROOM;
+use inputs::input_room;
 use inputs::table_end;
 use plans::PLAN_WORDS;
 use plans::Plan;
@@ -26,12 +26,12 @@ use runs::start;
 use scripts::DIGIT_ROOM;
 use scripts::SCRIPT_TEXT_ROOM;
 use tables::Checked;
-use tables::Counts;
+use tables::TableCounts;
 use tables::check;
 use telling::tell_run;
 
 fn main() {
-    let mut buffer = [0u8; INPUT_ROOM];
+    let mut buffer = input_room();
     let count = io::read_full(0, &mut buffer);
     play_input(&buffer[..count]);
 }
@@ -69,7 +69,7 @@ fn play_input(text: &[u8]) {
 // Plays a script over a table's columns, and tells what the run has come to.
 fn play_script(
     script: &[u8],
-    counts: Counts,
+    counts: TableCounts,
     kinds: &Kinds,
     payloads: &Payloads,
     owners: &Owners,

@@ -9,9 +9,9 @@ use denote.Enum.Declared.{tagOf, declared}
 use lib.Seq.{sets}
 use Rattle.lines.specs.Line.{Raw}
 use Rattle.scripts.specs.Script as Script
-use Rattle.scripts.specs.declared.Step.{Step}
-use Rattle.scripts.specs.declared.Step.the-variants as Lines
-use Rattle.scripts.proofs.Step.{enum}
+use Rattle.scripts.specs.declared.ScriptStep.{ScriptStep}
+use Rattle.scripts.specs.declared.ScriptStep.the-variants as Lines
+use Rattle.scripts.proofs.ScriptStep.{enum}
 use Rattle.runs.specs.code.Doors.{stepped}
 use Rattle.playing.specs.code.Playing.{Line-played, of-answer, without-step, unplayed, step-played}
 use Rattle.playing.specs.code.Playing.{by-line, played}
@@ -23,11 +23,11 @@ use Rattle.playing.specs.declared.Played.the-variants as Plays
 use Rattle.runs.proofs.Laws.{Steps}
 
 -- a line of a script that asks for no step, by its tag
-abbrev pub Other : Step → Type 0
+abbrev pub Other : ScriptStep → Type 0
 Other s = (tagOf (declared enum) s ≡ 1) ⊎ (tagOf (declared enum) s ≡ 2)
 
 -- the line of a script that stands from `at` on, with digits es in the lent array then
-module _ (p x w g c : List ℕ) (at : ℕ) (ls : List Raw) (ds es : List ℕ) (line : Step)
+module _ (p x w g c : List ℕ) (at : ℕ) (ls : List Raw) (ds es : List ℕ) (line : ScriptStep)
     (reads : (line ≡ Script.answer at ls) × (es ≡ sets ds 0 (Script.left ls))) where
   abbrev Whole : Line-played
   Whole = played p x w g c at ls ds
@@ -38,11 +38,11 @@ module _ (p x w g c : List ℕ) (at : ℕ) (ls : List Raw) (ds es : List ℕ) (l
       (r ≡ Whole .played) × ((v ≡ Whole .nodes) × ((h ≡ Whole .track)
       × ((k ≡ Whole .counters) × (es ≡ sets ds 0 (Script.left ls)))))
 
-  line-by : (s : Step) → line ≡ s → Whole ≡ by-line p x w g c s es
+  line-by : (s : ScriptStep) → line ≡ s → Whole ≡ by-line p x w g c s es
   unfolding played
   line-by s h = rw (← h, reads .0, reads .1)
 
-  without : (s : Step) → Other s → by-line p x w g c s es ≡ unplayed p x w g c (without-step s)
+  without : (s : ScriptStep) → Other s → by-line p x w g c s es ≡ unplayed p x w g c (without-step s)
   unfolding without-step by-line
   without (Lines.Address n next) h = ⊎-elim (λ z. absurd (omega arith)) (λ z. absurd (omega arith)) h
   without (Lines.Refused n) h = refl

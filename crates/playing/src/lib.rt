@@ -8,7 +8,7 @@ use rules::Event;
 use runs::Answer;
 use runs::step;
 use scripts::Digits;
-use scripts::Step;
+use scripts::ScriptStep;
 use scripts::next_step;
 ghost use mathlib.Core.Path.{_≡_};
 ghost use lib.ListN.{drop};
@@ -48,7 +48,7 @@ pub fn play(
         ≡ seq.sets (now (digits .entry)) 0 (left (lines (drop at (now (text .entry))))) ⌝ }
 {
     let line = next_step(text, at, digits);
-    let Step::Address { count, next } = line else {
+    let ScriptStep::Address { count, next } = line else {
         return no_step(line);
     };
     let answer = step(count, digits, plan, sets, nodes, track, counters);
@@ -62,12 +62,12 @@ pub fn play(
 }
 
 // What a line that asks for no step comes to.
-fn no_step(line: Step) -> Played
+fn no_step(line: ScriptStep) -> Played
     ensures { λ r. ⌜ r ≡ spec.without-step line ⌝ }
 {
     match line {
-        Step::Address { count: _, next: _ } => Played::End,
-        Step::Refused(number) => Played::Refused(number),
-        Step::End => Played::End,
+        ScriptStep::Address { count: _, next: _ } => Played::End,
+        ScriptStep::Refused(number) => Played::Refused(number),
+        ScriptStep::End => Played::End,
     }
 }

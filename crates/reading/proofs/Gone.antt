@@ -17,8 +17,8 @@ use Rattle.graphs.specs.Parsed.{Parsed, rest, parsed}
 use Rattle.links.specs.words.Columns.{flat}
 use Rattle.finding.specs.code.Found.{marks-of}
 use Rattle.parsing.specs.code.Phases.{opened, Told, nodes-read, pairs-read, last-read}
-use Rattle.parsing.specs.declared.Opened.{Opened}
-use Rattle.parsing.specs.declared.Opened.the-variants.{Track, Fails}
+use Rattle.parsing.specs.declared.TrackOpened.{TrackOpened}
+use Rattle.parsing.specs.declared.TrackOpened.the-variants.{Track, Fails}
 use Rattle.parsing.specs.declared.Lines.{Lines}
 use Rattle.parsing.specs.declared.Lines.the-variants.{Goes, Stops}
 use Rattle.parsing.proofs.Dues.{due-of, with-pairs}
@@ -35,7 +35,7 @@ pub record Counted (text : List ℕ) (n a s next : ℕ) : Type 0 where
   pub meetings-fit : s ≤ meeting-room
   pub work : (d : ℕ) → parsed d text ≡ rest d n (dues n a s) nothing 2 (lines (drop next text))
 
-pub counts : (text : List ℕ) {o : Opened} {n a s next : ℕ} → o ≡ opened (lines text) → o ≡ Track n a s next
+pub counts : (text : List ℕ) {o : TrackOpened} {n a s next : ℕ} → o ≡ opened (lines text) → o ≡ Track n a s next
     → Counted text n a s next
 unfolding Fits begun
 counts text {n = n} {a} {s} {next} e q =
@@ -138,7 +138,7 @@ module _ (text : List ℕ) (d : ℕ) (ks xs rs : List ℕ) where
   unfolding stopped
   stopped-done ls gs on p told e q = refused-done ls gs (stops-there on p (sym told ∙ e)) (q ∙ ap stopped e)
 
-  pub failed-done : (ls gs : List ℕ) {o : Opened} {k : ℕ} {r : Read} → o ≡ opened (lines text) → o ≡ Fails k
+  pub failed-done : (ls gs : List ℕ) {o : TrackOpened} {k : ℕ} {r : Read} → o ≡ opened (lines text) → o ≡ Fails k
       → r ≡ failed o → Done ls gs r
   unfolding begun failed
   failed-done ls gs b e q =

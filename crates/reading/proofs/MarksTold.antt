@@ -19,7 +19,7 @@ use Rattle.tables.specs.Table.{Sofar, judged, accepted}
 use Rattle.tables.specs.words.Columns.{kinds, payloads, afters, roots}
 use Rattle.tables.proofs.Whole.{zeros-column}
 use Rattle.terms.specs.Term.{Term, leaf, prefix, binary, definitions-of}
-use Rattle.terms.specs.words.Held.{Holds}
+use Rattle.terms.specs.words.Held.{HoldsTerm}
 use Rattle.terms.proofs.Trees.{checked-trees}
 use Rattle.terms.proofs.Held.{column-at, checked-holds}
 use Rattle.places.specs.Place.{Place, left-path, term-at, IsPrefix, Literal, own, event, literal-at}
@@ -103,7 +103,7 @@ module _ (ps : List ℕ) (t : ℕ) where
       simp (le-leb 3 m (omega arith), eq-eqb (m % 2) 1 (omega arith), half)
 
 -- where columns hold a prefix, its payload is its event
-payload-event : (ks ps xs : List ℕ) (ts : List Term) (t : Term) (i : ℕ) → Holds ks ps xs i t → IsPrefix t
+payload-event : (ks ps xs : List ℕ) (ts : List Term) (t : Term) (i : ℕ) → HoldsTerm ks ps xs i t → IsPrefix t
     → event-of-term ts (some t) ≡ some (getD ps i 0)
 unfolding event-of-term
 payload-event ks ps xs ts (leaf l) i h p = absurd p

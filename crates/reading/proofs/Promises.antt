@@ -13,7 +13,7 @@ use Rattle.terms.specs.Term.{definitions-of}
 use Rattle.graphs.specs.Graph.{Graph}
 use Rattle.graphs.specs.Parsed.{Parsed, says, refused}
 use Rattle.graphs.specs.Shape as Shape
-use Rattle.links.specs.declared.Counts.{Counts}
+use Rattle.links.specs.declared.GraphCounts.{GraphCounts}
 use Rattle.links.specs.words.Columns.{counts-of}
 use Rattle.links.proofs.Listed.{arcs-back, meetings-back}
 use Rattle.finding.specs.code.Found.{marks-of}
@@ -50,7 +50,7 @@ module _ (ks ps xs rs : List ℕ) where
   decided g ls gs e h false is = (rw (← is), tt)
 
   pub rules-decide : (p : Parsed) (ls gs : List ℕ) {r : Read} → r ≡ answer p → Held ks xs rs p ls gs
-      → {c : Counts} → r ≡ Accepted c → {b : Bool}
+      → {c : GraphCounts} → r ≡ Accepted c → {b : Bool}
       → b ≡ has-shape ks ps xs ls gs (c .nodes) (c .arcs) (c .meetings) → {v : Bool} → not b ≡ v
       → Judged p ls gs (choose v (Refused 13 0) (Accepted c))
   unfolding judged Held answer
@@ -66,7 +66,7 @@ module _ (ks ps xs rs : List ℕ) where
   rules-decide (refused n k) ls gs e h q t is = let z : _≡_ {A = ℕ} 0 1 = cc in absurd (omega arith)
 
 -- a column is handed over where a text is accepted, and else stays
-pub handed-new : (new old : List ℕ) {r : Read} {c : Counts} → r ≡ Accepted c → handed r new old ≡ new
+pub handed-new : (new old : List ℕ) {r : Read} {c : GraphCounts} → r ≡ Accepted c → handed r new old ≡ new
 unfolding handed
 handed-new new old e = rw e
 

@@ -12,11 +12,11 @@ use graphs::ARC_FRAME;
 use graphs::MEETING_FRAME;
 use lines::SHAPE_BROKEN;
 use links::Column;
-use links::Counts;
+use links::GraphCounts;
 use links::SIDE_WORDS;
 use links::SideWords;
 use parsing::Lines;
-use parsing::Opened;
+use parsing::TrackOpened;
 use parsing::first_line;
 use parsing::last_lines;
 use parsing::read_nodes;
@@ -31,7 +31,7 @@ ghost use Rattle.reading.specs.words.Kept.{Reads};
 
 // What reading comes to: the counts of the graph that was read; or a refusal's number and line.
 pub enum Read {
-    Accepted(Counts),
+    Accepted(GraphCounts),
     Refused { number: u8, line: usize },
 }
 
@@ -182,7 +182,7 @@ fn read_lines(
     *labels = [0u16; REFERENCES];
     *graph = [0u16; TRACK_WORDS];
     let opened = first_line(text);
-    let Opened::Track {
+    let TrackOpened::Track {
         nodes,
         arcs,
         meetings,
@@ -226,7 +226,7 @@ fn read_lines(
     let Lines::Goes(_) = by_last else {
         return refused(by_last);
     };
-    Read::Accepted(Counts {
+    Read::Accepted(GraphCounts {
         nodes,
         arcs,
         meetings,
@@ -234,17 +234,17 @@ fn read_lines(
 }
 
 // The refusal of line 1.
-fn refused_first(opened: Opened) -> Read
+fn refused_first(opened: TrackOpened) -> Read
     ensures { λ r. ⌜ r ≡ of.failed opened ⌝ }
 {
     match opened {
-        Opened::Track {
+        TrackOpened::Track {
             nodes: _,
             arcs: _,
             meetings: _,
             next: _,
         } => Read::Refused { number: 0, line: 1 },
-        Opened::Fails(number) => Read::Refused { number, line: 1 },
+        TrackOpened::Fails(number) => Read::Refused { number, line: 1 },
     }
 }
 

@@ -23,7 +23,7 @@ use Rattle.refusals.specs.code.Said.{heard, said, opens, opened-by, open
 use Rattle.frames.specs.declared.Frame.{Frame}
 use Rattle.frames.specs.declared.Frame.the-variants.{Opening, Definition, Term, Closing, Wrong}
 use Rattle.refusals.specs.declared.Said.the-variants.{Goes, Stops}
-use Rattle.refusals.specs.declared.Opened.the-variants.{Table, Fails}
+use Rattle.refusals.specs.declared.TableOpened.the-variants.{Table, Fails}
 use Rattle.frames.proofs.Frame as frame-type
 
 -- an answer other than a found line, and a frame other than line 1's

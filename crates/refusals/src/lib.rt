@@ -31,7 +31,7 @@ ghost use Rattle.frames.specs.declared.Frame.the-variants.{Opening, Definition,
 
 // What line 1 opens: a table of so many definitions and events, with the next line from `next` on, or the
 // number of its refusal.
-pub enum Opened {
+pub enum TableOpened {
     Table {
         definitions: usize,
         events: usize,
@@ -47,12 +47,12 @@ pub enum Said {
 }
 
 // Line 1 of a table.
-pub fn first_line(text: &[u8]) -> Opened
+pub fn first_line(text: &[u8]) -> TableOpened
     ensures { λ r. ⌜ r ≡ opened (lines (now (text .entry))) ⌝ }
 {
     let line = next_line(text, 0);
     let Line::Found { end, next } = line else {
-        return Opened::Fails(refusal_of(line));
+        return TableOpened::Fails(refusal_of(line));
     };
     let frame = read_frame(characters(text, 0, end));
     let Frame::Opening {
@@ -61,12 +61,12 @@ pub fn first_line(text: &[u8]) -> Opened
         events,
     } = frame
     else {
-        return Opened::Fails(WRONG_FRAME);
+        return TableOpened::Fails(WRONG_FRAME);
     };
     if opening_outside(edition, definitions, events) {
-        return Opened::Fails(OUT_OF_RANGE);
+        return TableOpened::Fails(OUT_OF_RANGE);
     }
-    Opened::Table {
+    TableOpened::Table {
         definitions: definitions as usize,
         events: events as usize,
         next,
@@ -214,15 +214,15 @@ pub fn stop_of(said: Said) -> u8
 }
 
 // The number that line 1 fails with.
-pub fn failure_of(first: Opened) -> u8
+pub fn failure_of(first: TableOpened) -> u8
     ensures { λ r. ⌜ r ≡ failure first ⌝ }
 {
     match first {
-        Opened::Table {
+        TableOpened::Table {
             definitions: _,
             events: _,
             next: _,
         } => 0,
-        Opened::Fails(number) => number,
+        TableOpened::Fails(number) => number,
     }
 }

@@ -14,7 +14,7 @@ use inputs::STANDARD_OUTPUT;
 use inputs::table_end;
 use lines::characters;
 use links::Column;
-use links::Counts;
+use links::GraphCounts;
 use links::SIDE_WORDS;
 use reading::Read;
 use reading::read_track;
@@ -30,7 +30,7 @@ const REREAD_ROOM: usize = 262145;
 const TRACK_ROOM: usize = 262144;
 
 fn main() {
-    let mut buffer = [0u8; REREAD_ROOM];
+    let mut buffer = reread_room();
     let count = io::read_full(0, &mut buffer);
     if TRACK_ROOM < count {
         tell_refusal(6, 0);
@@ -111,7 +111,7 @@ fn reread_track(
 
 // Writes a track that was read.
 fn write_track(
-    counts: Counts,
+    counts: GraphCounts,
     kinds: &Kinds,
     owners: &Owners,
     after: &After,
@@ -119,7 +119,7 @@ fn write_track(
     labels: &Column,
     graph: &Track,
 ) {
-    let mut text = [0u8; TRACK_ROOM];
+    let mut text = track_room();
     let saved = write(
         counts,
         labels,
@@ -144,4 +144,12 @@ fn tell_refusal(number: u8, line: usize) {
     io::print_hex(STANDARD_OUTPUT, number as u64, 2);
     io::print_hex(STANDARD_OUTPUT, line as u64, 4);
     io::write_all(STANDARD_OUTPUT, b"\n");
+}
+
+fn reread_room() -> [u8; REREAD_ROOM] {
+    [0u8; REREAD_ROOM]
+}
+
+fn track_room() -> [u8; TRACK_ROOM] {
+    [0u8; TRACK_ROOM]
 }

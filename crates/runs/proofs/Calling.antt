@@ -111,7 +111,7 @@ module _ (l : Layout) (p x : List ℕ) (ts : List Term) (count : ℕ) (ds w g c 
       (labelled-sideless 0 1 w (omega arith) (λ e. omega arith)
       (record { whole = holds .whole .whole-nodes; none-there = holds .whole .sideless }))
 
-  root-holds : Control.Holds l p x (standing 1 resting 0 0 (labelled 0 1 w)) 1 0 (rhs ts 0) []
+  root-holds : Control.HoldsControl l p x (standing 1 resting 0 0 (labelled 0 1 w)) 1 0 (rhs ts 0) []
   root-holds =
       let u = root-untouched l p x (labelled 0 1 w) ts table in
       let bare = untouched-around l p x (labelled 0 1 w) 0 0 (rhs ts 0) u in

@@ -43,7 +43,7 @@ module _ (l : Layout) (p x w : List ℕ) where
   rests-free n b P ks r =
       untouched-held l p x w _ _ P (r .untouched-there) 0 n ∙ nowhere n b (r .stands .within)
 
-  pub first-free : (n b : ℕ) (P : Process) (ks : List ℕ) → Control.Holds l p x w n b P ks → held 0 n P ≡ 0
+  pub first-free : (n b : ℕ) (P : Process) (ks : List ℕ) → Control.HoldsControl l p x w n b P ks → held 0 n P ≡ 0
   unfolding held
   first-free n b (leaf v f) ks h = rests-free n b (leaf v f) ks h
   first-free n b (prefix v e P) ks h = rests-free n b (prefix v e P) ks h

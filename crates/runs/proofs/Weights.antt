@@ -52,7 +52,7 @@ rhs-cells n (some t) = untouched-cells _ t
 
 -- of a control that does not stand at reference 0 the words hold it
 pub there-held : (l : Layout) (p x w : List ℕ) (n : ℕ) (P : Process) → Controls l p x w n P → (n ≡ 0 → ⊥)
-    → Control.Holds l p x w n 0 P []
+    → Control.HoldsControl l p x w n 0 P []
 there-held l p x w n P (starts e q) h = absurd (h e)
 there-held l p x w n P (stands-there held few) h = held
 

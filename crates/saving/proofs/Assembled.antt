@@ -9,7 +9,7 @@ use Rattle.control.specs.words.Words.{reference-room}
 use Rattle.counting.specs.code.Counting.{fresh, arcs, meetings}
 use Rattle.graphs.specs.Saved.{graph-text}
 use Rattle.walks.specs.code.Walked.{laid}
-use Rattle.links.specs.declared.Counts.{Counts}
+use Rattle.links.specs.declared.GraphCounts.{GraphCounts}
 use Rattle.numbering.specs.code.Numbered.{order-by, arcs-by, meetings-by, labels-out, track-out}
 use Rattle.framing.specs.words.Told.{graph-told}
 use Rattle.writing.specs.words.Slice.{answer, left}
@@ -20,20 +20,20 @@ use Rattle.saving.proofs.Promises.{saves}
 use Rattle.runs.specs.words.Held.{lent}
 
 -- what the numbering gives, of so many arcs and meetings
-abbrev Numbers : List ℕ → List ℕ → List ℕ → List ℕ → ℕ → ℕ → Counts → List ℕ → List ℕ → Type 0
+abbrev Numbers : List ℕ → List ℕ → List ℕ → List ℕ → ℕ → ℕ → GraphCounts → List ℕ → List ℕ → Type 0
 Numbers ms ks xs g a m n ls to =
     ((n .nodes ≡ length (order-by ms ks xs g a m)) × (n .arcs ≡ length (arcs-by ms ks xs g a m))
     × (n .meetings ≡ length (meetings-by ms ks xs g a m)))
     × ((ls ≡ labels-out ms ks xs g a m) × (to ≡ track-out ms ks xs g a m))
 
 -- counts are their three numbers
-counts-by : {n k : Counts} → n .nodes ≡ k .nodes → n .arcs ≡ k .arcs → n .meetings ≡ k .meetings → n ≡ k
+counts-by : {n k : GraphCounts} → n .nodes ≡ k .nodes → n .arcs ≡ k .arcs → n .meetings ≡ k .meetings → n ≡ k
 counts-by {n} {k} x y z = goal
   where
     goal : record { nodes = n .nodes; arcs = n .arcs; meetings = n .meetings } ≡ k
     goal = rw (x, y, z)
 
-module _ (ks os xs rs w g c : List ℕ) (drawn count a m : ℕ) (ms ls to : List ℕ) (n : Counts)
+module _ (ks os xs rs w g c : List ℕ) (drawn count a m : ℕ) (ms ls to : List ℕ) (n : GraphCounts)
     (drawn-is : drawn ≡ fresh c) (count-is : count ≡ min drawn reference-room)
     (taken : ms ≡ laid (marks-from w 0 count)) (a-is : a ≡ arcs c) (m-is : m ≡ meetings c)
     (numbers : Numbers ms ks xs g a m n ls to) where

@@ -13,7 +13,7 @@ use lib.Seq.{sets}
 use borrow.Author.Tests.{le-leb, leb-true, eq-eqb}
 use Rattle.lines.specs.Line.{lines, number-from}
 use Rattle.lines.proofs.Digits.{both}
-use Rattle.scripts.specs.declared.Step.{Step}
+use Rattle.scripts.specs.declared.ScriptStep.{ScriptStep}
 use Rattle.scripts.specs.Script.{most, digits, well-formed, all-digits, in-range, asked, address}
 use Rattle.scripts.specs.Script.{answer, left}
 use Rattle.scripts.specs.code.Answers.{refusal}
@@ -77,7 +77,7 @@ unfolding asked written
 asked-written ds a = simp (written-well ds, written-fits ds a)
 
 -- two outcomes that the promise of `next_step` allows, of one text, cursor and array, are equal
-pub next-step-settled : (s : List ℕ) (at : ℕ) (d : List ℕ) (r₁ r₂ : Step) (d₁ d₂ : List ℕ)
+pub next-step-settled : (s : List ℕ) (at : ℕ) (d : List ℕ) (r₁ r₂ : ScriptStep) (d₁ d₂ : List ℕ)
     → (r₁ ≡ answer at (lines (drop at s))) × (d₁ ≡ sets d 0 (left (lines (drop at s))))
     → (r₂ ≡ answer at (lines (drop at s))) × (d₂ ≡ sets d 0 (left (lines (drop at s))))
     → (r₁ ≡ r₂) × (d₁ ≡ d₂)

@@ -16,8 +16,8 @@ use Rattle.lines.specs.declared.Line.{Line}
 use Rattle.lines.specs.declared.Line.the-variants.{Found, NoLine, End as NoneLeft}
 use Rattle.lines.proofs.Digits.{both}
 use Rattle.lines.proofs.Laws.{IsLine, is-line, not-a-line, none-left, part-some, bytes-length}
-use Rattle.scripts.specs.declared.Step.{Step}
-use Rattle.scripts.specs.declared.Step.the-variants.{Address, Refused}
+use Rattle.scripts.specs.declared.ScriptStep.{ScriptStep}
+use Rattle.scripts.specs.declared.ScriptStep.the-variants.{Address, Refused}
 use Rattle.scripts.specs.Script.{most, digits, well-formed, all-digits, in-range, asked, Asked, address}
 use Rattle.scripts.specs.Script.{refused, digits-of, told, answer, left}
 use Rattle.scripts.specs.code.Answers.{without-line, refusal}
@@ -61,7 +61,7 @@ is-refused bs r e h = go (asked (some bs)) e
 
 module _ (s : List ℕ) (at : ℕ) where
   -- no line stands at the cursor
-  pub record NoStep (step : Step) : Type 0 where
+  pub record NoStep (step : ScriptStep) : Type 0 where
     pub told : step ≡ answer at (lines (drop at s))
     pub bare : left (lines (drop at s)) ≡ []
 

@@ -7,8 +7,8 @@ use mathlib.Core.Option.{Option, none, some}
 use lib.ListN.{length, getD, take, drop}
 use lib.Dec.{leb, eqb}
 use Rattle.lines.specs.Line.{choose, number, Raw, frame, characters}
-use Rattle.scripts.specs.declared.Step.{Step}
-use Rattle.scripts.specs.declared.Step.the-variants.{Address, Refused, End}
+use Rattle.scripts.specs.declared.ScriptStep.{ScriptStep}
+use Rattle.scripts.specs.declared.ScriptStep.the-variants.{Address, Refused, End}
 
 -- the most digits that an address has
 abbrev pub most : ℕ
@@ -50,12 +50,12 @@ digits-of (refused r) = []
 
 -- the answer that stands for what a line asks: how many digits its address has and where the next line
 -- begins, or the paper's number of the refusal
-unfoldable pub told : ℕ → Asked → Step
+unfoldable pub told : ℕ → Asked → ScriptStep
 told next (address ds) = Address (length ds) next
 told next (refused r) = Refused r
 
 -- the answer for the first of a script's lines, where they stand from `at` on
-unfoldable pub answer : ℕ → List Raw → Step
+unfoldable pub answer : ℕ → List Raw → ScriptStep
 answer at [] = End
 answer at (l ∷ ls) = told (at + length (characters l) + 1) (asked (frame l))
 

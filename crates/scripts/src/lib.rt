@@ -39,7 +39,7 @@ const HIGHEST: u8 = 4;
 
 // What the next line of a script asks for: a step, by an address of `count` digits, with the next line from
 // `next` on; the number of the line's refusal; or nothing, at the end of the script.
-pub enum Step {
+pub enum ScriptStep {
     Address { count: usize, next: usize },
     Refused(u8),
     End,
@@ -47,7 +47,7 @@ pub enum Step {
 
 // The next line of a script from a cursor. Its digits go to the front of `digits`; a refusal
 // leaves the array as it was.
-pub fn next_step(text: &[u8], at: usize, digits: &mut Digits) -> Step
+pub fn next_step(text: &[u8], at: usize, digits: &mut Digits) -> ScriptStep
     ensures { λ r. ⌜ r ≡ answer at (lines (drop at (now (text .entry)))) ⌝ }
     ensures { λ _. ⌜ now (digits .exit)
         ≡ sets (now (digits .entry)) 0 (left (lines (drop at (now (text .entry))))) ⌝ }
@@ -59,21 +59,21 @@ pub fn next_step(text: &[u8], at: usize, digits: &mut Digits) -> Step
     let chars = characters(text, at, end);
     let refused = judge(chars);
     if refused != 0 {
-        return Step::Refused(refused);
+        return ScriptStep::Refused(refused);
     }
     let count = chars.len() / 2 - HEAD;
     write_digits(chars, count, digits);
-    Step::Address { count, next }
+    ScriptStep::Address { count, next }
 }
 
 // The answer where no line stands at the cursor.
-fn no_step(line: Line) -> Step
+fn no_step(line: Line) -> ScriptStep
     ensures { λ r. ⌜ r ≡ without-line line ⌝ }
 {
     match line {
-        Line::Found { end: _, next: _ } => Step::End,
-        Line::NoLine => Step::Refused(NO_LINE),
-        Line::End => Step::End,
+        Line::Found { end: _, next: _ } => ScriptStep::End,
+        Line::NoLine => ScriptStep::Refused(NO_LINE),
+        Line::End => ScriptStep::End,
     }
 }
 

@@ -7,7 +7,7 @@ use native.Mathlib.Omega.{arith}
 use native.Mathlib.Numerals.{add-one}
 use lib.ListN.{length, set, length-append}
 use lib.Seq.{sets, length-sets}
-use Rattle.spelling.specs.Puts.{Puts}
+use Rattle.spelling.specs.words.Puts.{Puts}
 
 -- characters behind others are one run with them
 sets-behind : (s : List ℕ) (a : ℕ) (xs ys : List ℕ) → sets (sets s a xs) (a + length xs) ys ≡ sets s a (xs ++ ys)

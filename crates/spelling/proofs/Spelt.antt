@@ -4,7 +4,7 @@ use Prim.Native.Nat.{ℕ, _/_, _%_}
 use mathlib.Core.Path.{_≡_, refl, sym, ap, _∙_}
 use mathlib.Core.List.{List, [], _∷_, _++_, append-assoc}
 use Rattle.lines.specs.Line.{hex, text, two, LF}
-use Rattle.spelling.specs.Puts.{Puts}
+use Rattle.spelling.specs.words.Puts.{Puts}
 use Rattle.spelling.proofs.Putting.{puts-then, Owed, owed-less}
 
 -- a number's two bytes

@@ -1,2 +1,2 @@
--- Bytes spelled as hexadecimal. Meaning: `Puts`, what is put from a cursor on.
-pub mod Puts
+-- Bytes spelled as hexadecimal. Below: `words`, layouts of words and invariants.
+pub mod words

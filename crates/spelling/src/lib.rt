@@ -7,11 +7,11 @@ ghost use Prim.Native.Nat.{_<_, _≤_};
 ghost use lib.ListN.{set};
 ghost use Rattle.lines.specs.Line.{hex, character, two};
 ghost use Rattle.lines.specs.Line as line;
-ghost use Rattle.spelling.specs.Puts.{Puts};
+ghost use Rattle.spelling.specs.words.Puts.{Puts, byte-cursor, number-cursor};
 
 // A number of two bytes.
 pub fn put_number(at: usize, n: usize, out: &mut [u8]) -> usize
-    requires { ⌜ at ≤ 2500000 ⌝ }
+    requires { ⌜ at ≤ number-cursor ⌝ }
     ensures { λ r. ⌜ Puts at (hex (two n)) (now (out .entry)) (now (out .exit)) r ⌝ }
 {
     let high = put_byte(at, (n / 256 % 256) as u8, out);
@@ -20,7 +20,7 @@ pub fn put_number(at: usize, n: usize, out: &mut [u8]) -> usize
 
 // A byte, by its two digits.
 pub fn put_byte(at: usize, byte: u8, out: &mut [u8]) -> usize
-    requires { ⌜ at ≤ 3000000 ⌝ }
+    requires { ⌜ at ≤ byte-cursor ⌝ }
     ensures { λ r. ⌜ Puts at (hex (byte ∷ [])) (now (out .entry)) (now (out .exit)) r ⌝ }
 {
     put(at, digit_of(byte / 16), out);
@@ -30,7 +30,7 @@ pub fn put_byte(at: usize, byte: u8, out: &mut [u8]) -> usize
 
 // The LF behind a line.
 pub fn put_end(at: usize, out: &mut [u8]) -> usize
-    requires { ⌜ at ≤ 3000000 ⌝ }
+    requires { ⌜ at ≤ byte-cursor ⌝ }
     ensures { λ r. ⌜ Puts at (line.LF ∷ []) (now (out .entry)) (now (out .exit)) r ⌝ }
 {
     put(at, LF, out);

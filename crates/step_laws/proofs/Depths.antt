@@ -16,7 +16,7 @@ use Rattle.places.specs.Place.{Place}
 use Rattle.rules.specs.Process.{Process, leaf, prefix, internal, split, sequence, Ω, ⊥′, cells, joined}
 use Rattle.rules.specs.Process.{untouched, below}
 use Rattle.plans.specs.words.Plan.{Layout}
-use Rattle.control.specs.words.Control.{Untouched, Holds}
+use Rattle.control.specs.words.Control.{Untouched, HoldsControl}
 use Rattle.weighing.proofs.TermTold.{levels, levels-some, planned-levels}
 use Rattle.step_laws.proofs.Nesting.{needs}
 
@@ -42,7 +42,7 @@ module _ (l : Layout) (p x w : List ℕ) (short : (i : ℕ) → length (l .place
             (u .planned),
       ))
 
-  pub needs-bound : (n b : ℕ) (P : Process) (ks : List ℕ) → Holds l p x w n b P ks → needs P ≤ cells P + 132
+  pub needs-bound : (n b : ℕ) (P : Process) (ks : List ℕ) → HoldsControl l p x w n b P ks → needs P ≤ cells P + 132
   unfolding needs cells
   needs-bound n b (leaf v f) ks h = omega arith
   needs-bound n b (prefix v e P) ks h = omega arith

@@ -32,7 +32,7 @@ use Rattle.rules.proofs.Drawn.{untouched-on}
 use Rattle.rules.proofs.Stripped.{ends-at-Ω}
 use Rattle.plans.specs.words.Plan.{Layout}
 use Rattle.control.specs.words.Words.{node}
-use Rattle.control.specs.words.Control.{label, term, frame, split-kind, Untouched, Holds}
+use Rattle.control.specs.words.Control.{label, term, frame, split-kind, Untouched, HoldsControl}
 use Rattle.control.proofs.Framed.{around-lasting}
 use Rattle.control.proofs.Chains.{holds-dropped}
 use Rattle.control.specs.words.Sums.{capped}
@@ -76,7 +76,7 @@ module _ (l : Layout) (p x w : List ℕ) where
   untouched-lively : (i o : ℕ) (P : Process) → Untouched l p x w i o P → Lively P
   untouched-lively i o P u = subst Lively (sym (u .is)) (tree-lively (l .place i) (u .tree))
 
-  holds-lively : (n b : ℕ) (P : Process) (ks : List ℕ) → Holds l p x w n b P ks → Lively P
+  holds-lively : (n b : ℕ) (P : Process) (ks : List ℕ) → HoldsControl l p x w n b P ks → Lively P
   holds-lively n b (leaf v f) ks h = tt
   holds-lively n b (prefix v e P) ks h = untouched-lively _ _ _ (h .untouched-there)
   holds-lively n b (internal v P Q) ks h = tt
@@ -207,7 +207,7 @@ module _ {l : Layout} {p x : List ℕ} {count : ℕ} {ts : List Term} {s : Side}
               let last = start-draws (h .starts) .last q in
               let far : u .tally .fresh ≤ r .reference =
               omega (arith, last .0, side-fresh m (some c) v (at-words n u) P) in (
-                subst (λ R. Holds l p x (d .nodes) (r .reference) (frame-in p (u .nodes) choice n) R [])
+                subst (λ R. HoldsControl l p x (d .nodes) (r .reference) (frame-in p (u .nodes) choice n) R [])
                     (ends-at-Ω (start-derived (h .starts) .2) q) (h .goes .holds) .1,
                 dropped-bare q,
                 omega (arith, was .stands .within, start-drawn (h .starts), far),

@@ -23,7 +23,7 @@ use Rattle.rules.proofs.Holding.{side-held}
 use Rattle.plans.specs.words.Plan.{Layout, around}
 use Rattle.control.specs.words.Words.{reference-room, node, put}
 use Rattle.control.specs.words.Control.{label, term, frame, first-cells, second-cells, resting, beyond}
-use Rattle.control.specs.words.Control.{inside, Rests, Splits, Holds}
+use Rattle.control.specs.words.Control.{inside, Rests, Splits, HoldsControl}
 use Rattle.control.proofs.NodeLaws.{put-length, put-other}
 use Rattle.control.proofs.Framed.{Same, Lasting, lasting-then, words-lasting, stands-framed, untouched-told}
 use Rattle.control.proofs.Framed.{holds-framed}
@@ -47,7 +47,7 @@ opposite-other right e = omega arith
 
 -- what is held stands behind its frame
 pub holds-within : (l : Layout) (p x w : List ℕ) (n b : ℕ) (P : Process) (ks : List ℕ)
-    → Holds l p x w n b P ks → b < n
+    → HoldsControl l p x w n b P ks → b < n
 holds-within l p x w n b (leaf v f) ks h = h .stands .within
 holds-within l p x w n b (prefix v e P) ks h = h .stands .within
 holds-within l p x w n b (internal v P Q) ks h = h .stands .within

@@ -15,7 +15,7 @@ use Rattle.rules.proofs.Marked.{Fit, past}
 use Rattle.rules.proofs.Holding.{held}
 use Rattle.plans.specs.words.Plan.{Layout}
 use Rattle.control.specs.words.Words.{node, reference-room, track-words}
-use Rattle.control.specs.words.Control.{label, state, at-end, Around, Holds}
+use Rattle.control.specs.words.Control.{label, state, at-end, Around, HoldsControl}
 use Rattle.control.specs.words.Views.{arcs-of}
 use Rattle.leaves.specs.code.Leaves.{Done}
 use Rattle.step_laws.proofs.Writing.{Words, Added, Writes}
@@ -56,7 +56,7 @@ module _ (l : Layout) (p x : List ℕ) (count : ℕ) where
   -- words that hold a process at reference n, each of whose references is drawn and held once
   pub record Ready (n b : ℕ) (P : Process) (ks : List ℕ) (u : Words) : Type 0 where
     pub sound : Sound u
-    pub holds : Holds l p x (u .nodes) n b P ks
+    pub holds : HoldsControl l p x (u .nodes) n b P ks
     pub fit : Fit P
     pub once : (j : ℕ) → held j n P ≤ past j (u .tally .fresh)
 
@@ -72,7 +72,7 @@ module _ (l : Layout) (p x : List ℕ) (count : ℕ) where
   pub record Goes (n b : ℕ) (P : Process) (u : Words) (y : Stepped) (d : Done) : Type 0 where
     pub matches : Matches (λ j. held j n P) u y d
     pub size-is : d .taken .size ≡ cells (y .outcome .process)
-    pub holds : Holds l p x (d .nodes) (y .outcome .reference) b (y .outcome .process) []
+    pub holds : HoldsControl l p x (d .nodes) (y .outcome .reference) b (y .outcome .process) []
 
   -- a part's step before the sequences ks around it see its event: they stand around what it comes to; of a ✓, which
   -- leaves Ω, they stand around the term t with frame f that it came from
@@ -80,7 +80,7 @@ module _ (l : Layout) (p x : List ℕ) (count : ℕ) where
     pub matches : Matches (λ j. held j n P) u y d
     pub size-is : d .taken .size ≡ length ks + cells (y .outcome .process)
     pub chain : Around p (d .nodes) t f b ks
-    pub goes-on : (y .outcome .event ≡ ✓ → ⊥) → Holds l p x (d .nodes) (y .outcome .reference) b (y .outcome .process) ks
+    pub goes-on : (y .outcome .event ≡ ✓ → ⊥) → HoldsControl l p x (d .nodes) (y .outcome .reference) b (y .outcome .process) ks
     pub at-Ω : y .outcome .event ≡ ✓ → y .outcome .process ≡ Ω
     pub Ω-there : y .outcome .event ≡ ✓ → (state (d .nodes) (y .outcome .reference) ≡ at-end)
         × (label (d .nodes) (y .outcome .reference) ≡ 0) × (b < y .outcome .reference)

@@ -26,10 +26,10 @@ use Rattle.plans.specs.words.Plan.{Layout, second, around}
 use Rattle.plans.specs.words.Plan as Plan
 use Rattle.control.specs.words.Words.{reference-room, node}
 use Rattle.control.specs.words.Control.{label, state, term, frame, resting, at-end, dead, Around, beyond}
-use Rattle.control.specs.words.Control.{Untouched, Rests, Holds}
+use Rattle.control.specs.words.Control.{Untouched, Rests, HoldsControl}
 use Rattle.rules.specs.declared.Event.{Event}
 use Rattle.control.proofs.Framed.{around-lasting, untouched-told}
-use Rattle.control.proofs.Chains.{Awaiting, Tells, around-term, around-called}
+use Rattle.control.proofs.Chains.{Awaiting, TellsBehind, around-term, around-called}
 use Rattle.control.specs.words.Sums.{capped}
 use Rattle.looking.specs.code.Looking.{digit-at, taken}
 use Rattle.weighing.proofs.Told.{wrapped, wrapped-none, number, From, from-at, next-at}
@@ -142,7 +142,7 @@ module _ (l : Layout) (p x : List ℕ) (count n b : ℕ) (P : Process) (ks : Lis
           (λ e. own-some at-term term-below (sym mark-is ∙ e)) (rests .stands .within) bare ks one-chain
 
       one-ends : (a : Address) (at size : ℕ) → at ≡ count - length a → size ≡ length ks + cells Q
-          → ((e ≡ ✓ → ⊥) → Holds l p x (after-one u n s t f) (u .tally .fresh) b Q ks)
+          → ((e ≡ ✓ → ⊥) → HoldsControl l p x (after-one u n s t f) (u .tally .fresh) b Q ks)
           → (e ≡ ✓ → (Q ≡ Ω) × (state (after-one u n s t f) (u .tally .fresh) ≡ at-end))
           → Ends l p x count n b at-term at-frame ks P u (come-as (labelled e Q v (at-words n u)) a)
           (single e n s at-term t f at size (u .tally) (u .nodes) (u .track))
@@ -171,7 +171,7 @@ module _ (l : Layout) (p x : List ℕ) (count n b : ℕ) (P : Process) (ks : Lis
     -- an untouched term comes to stand there
     rests-next : (t f : ℕ) → f < u .tally .fresh → Untouched l p x (u .nodes) t (around p t) Q
         → Around p (after-one u n resting t f) t f b ks
-        → Holds l p x (after-one u n resting t f) (u .tally .fresh) b Q ks
+        → HoldsControl l p x (after-one u n resting t f) (u .tally .fresh) b Q ks
     rests-next t f below there chain =
         let m = u .tally .fresh in
         let small = untouched-below l p x (u .nodes) t (around p t) Q there in
@@ -182,7 +182,7 @@ module _ (l : Layout) (p x : List ℕ) (count n b : ℕ) (P : Process) (ks : Lis
 
   -- what comes of it inside the sequences around it
   module _ (a : Address) (qs : List Awaiting) (y : Stepped) (fits : Fits u (y .outcome))
-      (tells : Tells l p x (u .nodes) ks qs) (numbered : Numbered p) (at size : ℕ)
+      (tells : TellsBehind l p x (u .nodes) ks qs) (numbered : Numbered p) (at size : ℕ)
       (at-is : at ≡ count - length a) (size-is : size ≡ length ks + 1) where
     abbrev Comes : Outcome → Type 0
     Comes r = wrapped qs (stepped r a) ≡ some y
@@ -217,7 +217,7 @@ module _ (l : Layout) (p x : List ℕ) (count n b : ℕ) (P : Process) (ks : Lis
         (λ _. (refl, there .state-is)))
 
     τ-goes : (Q : Process) (s t f : ℕ) → Comes (labelled τ Q v (at-words n u)) → cells Q ≡ 1
-        → (Fits u (labelled τ Q v (at-words n u)) → Holds l p x (after-one u n s t f) (u .tally .fresh) b Q ks)
+        → (Fits u (labelled τ Q v (at-words n u)) → HoldsControl l p x (after-one u n s t f) (u .tally .fresh) b Q ks)
         → Goes-by (by-one Tau s t f)
     unfolding labelled
     τ-goes Q s t f come-to cell holds =
@@ -336,7 +336,7 @@ module _ (l : Layout) (p x : List ℕ) (count n b : ℕ) (P : Process) (ks : Lis
       both-chain =
           around-lasting p (u .nodes) _ (both-writes .lasting) at-term at-frame b ks (rests .stands .chain)
 
-      prefix-holds : Holds l p x (second-to .nodes) (suc (u .tally .fresh)) b Q ks
+      prefix-holds : HoldsControl l p x (second-to .nodes) (suc (u .tally .fresh)) b Q ks
       unfolding prefixed one-node
       prefix-holds =
           let m = u .tally .fresh in
@@ -345,7 +345,7 @@ module _ (l : Layout) (p x : List ℕ) (count n b : ℕ) (P : Process) (ks : Lis
           let w = Marks.labelled m (own-mark at-term) (first-to .nodes) in
           let same = untouched-around l p x (u .nodes) g (around p at-term) Q there in
           let whole = labelled-whole n (event-mark at-term) (u .nodes) (clean-there .whole-nodes) in
-          subst (λ i. Holds l p x (second-to .nodes) i b Q ks) first-fresh
+          subst (λ i. HoldsControl l p x (second-to .nodes) i b Q ks) first-fresh
           (rests-holds l p x (second-to .nodes) m′ b ks Q
           (new-rests l p x w m′ g at-frame b ks (omega (arith, first-fresh, part .fresh-fits))
           (labelled-whole m (own-mark at-term) (first-to .nodes) whole) (omega (arith, term-below))
@@ -381,7 +381,7 @@ module _ (l : Layout) (p x : List ℕ) (count n b : ℕ) (P : Process) (ks : Lis
             Ω-there = λ h. let z : _≡_ {A = ℕ} 0 1 = cc in absurd (omega arith);
           }))
 
-called-untouched : (l : Layout) (p x w : List ℕ) (ts : List Term) → Plan.Holds l p x ts → (m : ℕ)
+called-untouched : (l : Layout) (p x w : List ℕ) (ts : List Term) → Plan.HoldsTable l p x ts → (m : ℕ)
     → (getElem? ts m ≡ none → ⊥) → Untouched l p x w (l .root m) 0 (rhs ts m)
 unfolding right-side
 called-untouched l p x w ts plan m there = go (getElem? ts m) refl
@@ -401,8 +401,8 @@ Low Ω = ⊥
 Low ⊥′ = ⊥
 
 module _ (l : Layout) (p x : List ℕ) (count : ℕ) (ds : List ℕ) (ts : List Term) (n b : ℕ) (ks : List ℕ)
-    (qs : List Awaiting) (u : Words) (at size : ℕ) (y : Stepped) (plan : Plan.Holds l p x ts)
-    (numbered : Numbered p) (tells : Tells l p x (u .nodes) ks qs) (size-is : size ≡ length ks + 1)
+    (qs : List Awaiting) (u : Words) (at size : ℕ) (y : Stepped) (plan : Plan.HoldsTable l p x ts)
+    (numbered : Numbered p) (tells : TellsBehind l p x (u .nodes) ks qs) (size-is : size ≡ length ks + 1)
     (fits : Fits u (y .outcome)) where
   abbrev t : ℕ
   t = term (u .nodes) n

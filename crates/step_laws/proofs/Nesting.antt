@@ -25,7 +25,7 @@ use Rattle.plans.specs.words.Plan.{Layout, kind, second, around, Planned}
 use Rattle.control.specs.words.Words.{put, reference-room}
 use Rattle.control.specs.words.Control.{term, Rests}
 use Rattle.control.proofs.Framed.{untouched-held}
-use Rattle.control.proofs.Chains.{Awaiting, Tells}
+use Rattle.control.proofs.Chains.{Awaiting, TellsBehind}
 use Rattle.control.specs.words.Sums.{capped}
 use Rattle.weighing.proofs.Told.{From, wrapped, wrapped-none}
 use Rattle.weighing.proofs.TermTold.{kind-room, untouched-cells}
@@ -84,7 +84,7 @@ module _ (l : Layout) (p x : List ℕ) (ts : List Term) (count : ℕ) (ds : List
       (u : Words) (y : Stepped) : Type 0 where
     pub ready : Ready l p x count n b P ks u
     pub sideless : Sideless (u .nodes)
-    pub tells : Tells l p x (u .nodes) ks qs
+    pub tells : TellsBehind l p x (u .nodes) ks qs
     pub calls : Calls ts P
     pub from : From ds count at a
     pub enough : needs P ≤ left

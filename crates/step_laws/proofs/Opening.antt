@@ -20,7 +20,7 @@ use Rattle.plans.specs.words.Plan.{Layout, kind, second, around}
 use Rattle.plans.proofs.Laws.{word-out}
 use Rattle.control.specs.words.Words.{reference-room, node}
 use Rattle.control.specs.words.Control.{term, frame, first, second-side, inside, split-kind, Untouched}
-use Rattle.control.specs.words.Control.{Splits, Holds}
+use Rattle.control.specs.words.Control.{Splits, HoldsControl}
 use Rattle.control.proofs.Framed.{Lasting, stands-framed, untouched-told}
 use Rattle.drawing.specs.code.Drawing.{one-node}
 use Rattle.sides.specs.code.Sides.{entered}
@@ -99,7 +99,7 @@ module _ (l : Layout) (p x w : List ℕ) where
   -- a side with word i, of term t inside frame f
   abbrev pub SideHeld : Option ℕ → ℕ → ℕ → ℕ → Process → Type 0
   SideHeld none i t f P = (i ≡ 0) × Untouched l p x w t 0 P
-  SideHeld (some m) i t f P = (i ≡ m) × Holds l p x w m f P []
+  SideHeld (some m) i t f P = (i ≡ m) × HoldsControl l p x w m f P []
 
   -- an entered split by its side s, and the other
   pub record Opened (s : Side) (n b : ℕ) (ks : List ℕ) (v : Place) (k : Split) (m o : Option ℕ) (P Q : Process)
@@ -116,7 +116,7 @@ module _ (l : Layout) (p x w : List ℕ) where
     opened-turned right m o P Q h = record { splits = h .splits; own = h .other; other = h .own }
 
     -- what the words hold of an entered split is so
-    left-opened : (m o : Option ℕ) (P Q : Process) → SomeSide m o → Holds l p x w n b (split v k m o P Q) ks
+    left-opened : (m o : Option ℕ) (P Q : Process) → SomeSide m o → HoldsControl l p x w n b (split v k m o P Q) ks
         → Opened left n b ks v k m o P Q
     left-opened none none P Q e h = absurd e
     left-opened none (some o) P Q e h = record { splits = h .0; own = (h .1, h .3); other = (h .2, h .4) }
@@ -124,7 +124,7 @@ module _ (l : Layout) (p x w : List ℕ) where
     left-opened (some m) (some o) P Q e h = record { splits = h .0; own = (h .1, h .3); other = (h .2, h .4) }
 
     left-held : (m o : Option ℕ) (P Q : Process) → SomeSide m o → Opened left n b ks v k m o P Q
-        → Holds l p x w n b (split v k m o P Q) ks
+        → HoldsControl l p x w n b (split v k m o P Q) ks
     left-held none none P Q e h = absurd e
     left-held none (some o) P Q e h = (h .splits, h .own .0, h .other .0, h .own .1, h .other .1)
     left-held (some m) none P Q e h = (h .splits, h .own .0, h .other .0, h .own .1, h .other .1)
@@ -137,13 +137,13 @@ module _ (l : Layout) (p x w : List ℕ) where
     turned-some (some m) (some o) e = tt
 
     pub held-opened : (s : Side) (m o : Option ℕ) (P Q : Process) → SomeSide m o
-        → Holds l p x w n b (split-by s v k m o P Q) ks → Opened s n b ks v k m o P Q
+        → HoldsControl l p x w n b (split-by s v k m o P Q) ks → Opened s n b ks v k m o P Q
     held-opened left m o P Q e h = left-opened m o P Q e h
     held-opened right m o P Q e h =
         opened-turned left o m Q P (left-opened o m Q P (turned-some m o e) h)
 
     pub opened-held : (s : Side) (m o : Option ℕ) (P Q : Process) → SomeSide m o → Opened s n b ks v k m o P Q
-        → Holds l p x w n b (split-by s v k m o P Q) ks
+        → HoldsControl l p x w n b (split-by s v k m o P Q) ks
     opened-held left m o P Q e h = left-held m o P Q e h
     opened-held right m o P Q e h =
         left-held o m Q P (turned-some m o e) (opened-turned right m o P Q h)

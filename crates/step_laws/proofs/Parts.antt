@@ -28,7 +28,7 @@ use Rattle.plans.specs.words.Plan.{Planned}
 use Rattle.plans.proofs.Laws.{word-out}
 use Rattle.control.specs.words.Words.{reference-room, track-words, node}
 use Rattle.control.specs.words.Control.{label, resting, Around, split-kind, split-set, Untouched, Stands}
-use Rattle.control.specs.words.Control.{Rests, Holds}
+use Rattle.control.specs.words.Control.{Rests, HoldsControl}
 use Rattle.control.proofs.NodeLaws.{Whole}
 use Rattle.control.proofs.Framed.{Same, Lasting, words-lasting, untouched-told}
 use Rattle.control.specs.words.Sums.{capped}
@@ -367,7 +367,7 @@ untouched-cells v (Term.binary (parallel x) t u) = refl
 module _ (l : Layout) (p x w : List ℕ) where
   -- what rests is held
   rests-tree : (n b : ℕ) (ks : List ℕ) (v : Place) (t : Term) → Rests l p x w n b ks (untouched v t)
-      → Holds l p x w n b (untouched v t) ks
+      → HoldsControl l p x w n b (untouched v t) ks
   unfolding untouched joined
   rests-tree n b ks v (Term.leaf f) r = r
   rests-tree n b ks v (Term.prefix e t) r = r
@@ -376,10 +376,10 @@ module _ (l : Layout) (p x w : List ℕ) where
   rests-tree n b ks v (Term.binary Term.sequence t u) r = r
   rests-tree n b ks v (Term.binary (parallel s) t u) r = r
 
-  pub rests-holds : (n b : ℕ) (ks : List ℕ) (P : Process) → Rests l p x w n b ks P → Holds l p x w n b P ks
+  pub rests-holds : (n b : ℕ) (ks : List ℕ) (P : Process) → Rests l p x w n b ks P → HoldsControl l p x w n b P ks
   rests-holds n b ks P r =
       let u = r .untouched-there in
-      subst (λ R. Holds l p x w n b R ks) (sym (u .is))
+      subst (λ R. HoldsControl l p x w n b R ks) (sym (u .is))
       (rests-tree n b ks _ (u .tree) (subst (Rests l p x w n b ks) (u .is) r))
 
   pub single-cell : (i o : ℕ) (P : Process) → Untouched l p x w i o P → cells P ≡ 1

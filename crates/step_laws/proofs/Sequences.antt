@@ -13,7 +13,7 @@ use Rattle.rules.proofs.Marked.{past, unentered-fit, untouched-unentered}
 use Rattle.rules.proofs.Holding.{held}
 use Rattle.plans.specs.words.Plan.{Layout, second, around, first-around, second-around, Planned}
 use Rattle.control.specs.words.Words.{put, reference-room}
-use Rattle.control.specs.words.Control.{label, term, frame, Rests, Follows, Holds}
+use Rattle.control.specs.words.Control.{label, term, frame, Rests, Follows, HoldsControl}
 use Rattle.control.proofs.NodeLaws.{Whole, put-same, put-other, put-whole, put-length}
 use Rattle.control.proofs.Framed.{Same, around-lasting, put-lasting}
 use Rattle.control.proofs.Chains.{around-inside}
@@ -36,7 +36,7 @@ onward n t u = record { tally = u .tally; nodes = put 2 (u .nodes) n t; track = 
 module _ (l : Layout) (p x w : List ℕ) where
   -- an untouched term that rests is held
   pub rests-held : (n b : ℕ) (ks : List ℕ) (v : Place) (t : Term) → Rests l p x w n b ks (untouched v t)
-      → Holds l p x w n b (untouched v t) ks
+      → HoldsControl l p x w n b (untouched v t) ks
   unfolding untouched joined
   rests-held n b ks v (Term.leaf f) r = r
   rests-held n b ks v (Term.prefix e t) r = r

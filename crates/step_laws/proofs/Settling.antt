@@ -22,9 +22,9 @@ use Rattle.rules.specs.Step.{Stepped, stepped, in-sequence, by-left}
 use Rattle.rules.proofs.Marked.{one, one-same}
 use Rattle.rules.proofs.Holding.{held}
 use Rattle.plans.specs.words.Plan.{Layout, second, around}
-use Rattle.control.specs.words.Control.{term, resting, innermost, behind, Around, Holds}
+use Rattle.control.specs.words.Control.{term, resting, innermost, behind, Around, HoldsControl}
 use Rattle.control.proofs.Framed.{untouched-told, follows-told, around-lasting}
-use Rattle.control.proofs.Chains.{Awaiting, Tells, wrapped-cells, wrapped-holds, around-started}
+use Rattle.control.proofs.Chains.{Awaiting, TellsBehind, wrapped-cells, wrapped-holds, around-started}
 use Rattle.control.proofs.Chains as Chains
 use Rattle.weighing.proofs.Told.{wrapped}
 use Rattle.drawing.specs.code.Drawing.{one-node, one-arc, drawn, labelled}
@@ -52,7 +52,7 @@ around-drawn p u c t f b (k ∷ ks) h a = go (eqb (around p t) 0) refl (around-d
     go false e i = simp e at i
 
 -- sequences of numbers ks, one for one
-pub tells-length : (l : Layout) (p x w : List ℕ) (ks : List ℕ) (qs : List Awaiting) → Tells l p x w ks qs
+pub tells-length : (l : Layout) (p x w : List ℕ) (ks : List ℕ) (qs : List Awaiting) → TellsBehind l p x w ks qs
     → length ks ≡ length qs
 tells-length l p x w [] [] t = refl
 tells-length l p x w [] (q ∷ qs) t = absurd t
@@ -93,8 +93,8 @@ wrapped-over q qs r a e =
     ap (wrapped qs) starts ∙ wrapped-on qs on a (λ h. let z : _≡_ {A = ℕ} 0 1 = cc in omega arith)
 
 -- what a plan tells does not go by the words
-pub tells-told : (l : Layout) (p x w w′ : List ℕ) (ks : List ℕ) (qs : List Awaiting) → Tells l p x w ks qs
-    → Tells l p x w′ ks qs
+pub tells-told : (l : Layout) (p x w w′ : List ℕ) (ks : List ℕ) (qs : List Awaiting) → TellsBehind l p x w ks qs
+    → TellsBehind l p x w′ ks qs
 tells-told l p x w w′ [] [] t = t
 tells-told l p x w w′ [] (q ∷ qs) t = absurd t
 tells-told l p x w w′ (k ∷ ks) [] t = absurd t
@@ -220,7 +220,7 @@ module _ (l : Layout) (p x : List ℕ) (count n b t f : ℕ) (P : Process) (u : 
   Goes-as r e = Goes l p x count n b P u (come-as r (y .unused)) e
 
   on-goes : (ks : List ℕ) (qs : List Awaiting) → Ends l p x count n b t f ks P u y d
-      → Tells l p x (d .nodes) ks qs → (y .outcome .event ≡ ✓ → ⊥) → Goes-as (inside-as (y .outcome) qs) d
+      → TellsBehind l p x (d .nodes) ks qs → (y .outcome .event ≡ ✓ → ⊥) → Goes-as (inside-as (y .outcome) qs) d
   unfolding carried
   on-goes ks qs e tells h =
       let r = y .outcome in
@@ -249,7 +249,7 @@ module _ (l : Layout) (p x : List ℕ) (count n b t f : ℕ) (P : Process) (u : 
       }
 
   module _ (k : ℕ) (ks : List ℕ) (q : Awaiting) (qs : List Awaiting)
-      (e : Ends l p x count n b t f (k ∷ ks) P u y d) (tells : Tells l p x (d .nodes) (k ∷ ks) (q ∷ qs))
+      (e : Ends l p x count n b t f (k ∷ ks) P u y d) (tells : TellsBehind l p x (d .nodes) (k ∷ ks) (q ∷ qs))
       (h : y .outcome .event ≡ ✓) (none-met : y .outcome .met ≡ []) (fits : Fits u (right-as (y .outcome) q qs))
       (sound : Sound u) (numbered : Numbered p) where
     abbrev next : Done
@@ -305,7 +305,7 @@ module _ (l : Layout) (p x : List ℕ) (count n b t f : ℕ) (P : Process) (u : 
           at-is = m .at-is;
         }
 
-    start-holds : Holds l p x (next .nodes) (d .taken .tally .fresh) b (Chains.wrapped (q .right) qs) []
+    start-holds : HoldsControl l p x (next .nodes) (d .taken .tally .fresh) b (Chains.wrapped (q .right) qs) []
     unfolding Leaves.started one-node carried started
     start-holds =
         let w = d .nodes in
@@ -345,7 +345,7 @@ module _ (l : Layout) (p x : List ℕ) (count n b t f : ℕ) (P : Process) (u : 
           matches = start-matches;
           size-is = omega (arith, e .size-is, last, right, wrapped-cells (q .right) qs, long);
           holds =
-              subst (λ m. Holds l p x (next .nodes) m b (Chains.wrapped (q .right) qs) [])
+              subst (λ m. HoldsControl l p x (next .nodes) m b (Chains.wrapped (q .right) qs) [])
               (e .matches .fresh-is) start-holds;
         }
 
@@ -353,7 +353,7 @@ module _ (l : Layout) (p x : List ℕ) (count n b t f : ℕ) (P : Process) (u : 
   module _ (y′ : Stepped) (none-met : y .outcome .event ≡ ✓ → y .outcome .met ≡ [])
       (fits : Fits u (y′ .outcome)) (sound : Sound u) (numbered : Numbered p) where
     settled-at : (ks : List ℕ) (qs : List Awaiting) → Ending (y .outcome .event)
-        → Ends l p x count n b t f ks P u y d → Tells l p x (d .nodes) ks qs → wrapped qs (some y) ≡ some y′
+        → Ends l p x count n b t f ks P u y d → TellsBehind l p x (d .nodes) ks qs → wrapped qs (some y) ≡ some y′
         → Goes l p x count n b P u y′ (settled p (d .taken) t f b (d .nodes) (d .track))
     unfolding wrapped
     settled-at ks qs (on h) e tells w =
@@ -375,6 +375,6 @@ module _ (l : Layout) (p x : List ℕ) (count n b t f : ℕ) (P : Process) (u : 
         (over-goes k ks q qs e tells h (none-met h) room sound numbered)
 
     pub settled-goes : (ks : List ℕ) (qs : List Awaiting) → Ends l p x count n b t f ks P u y d
-        → Tells l p x (d .nodes) ks qs → wrapped qs (some y) ≡ some y′
+        → TellsBehind l p x (d .nodes) ks qs → wrapped qs (some y) ≡ some y′
         → Goes l p x count n b P u y′ (settled p (d .taken) t f b (d .nodes) (d .track))
     settled-goes ks qs e tells w = settled-at ks qs (ending (y .outcome .event)) e tells w

@@ -22,7 +22,7 @@ use Rattle.rules.proofs.Ranged.{Calls}
 use Rattle.plans.specs.words.Plan.{Layout}
 use Rattle.control.specs.words.Words.{node}
 use Rattle.control.specs.words.Control.{label, term, frame}
-use Rattle.control.proofs.Chains.{Awaiting, Tells}
+use Rattle.control.proofs.Chains.{Awaiting, TellsBehind}
 use Rattle.weighing.proofs.Told.{From, wrapped}
 use Rattle.leaves.specs.code.Leaves.{Done}
 use Rattle.stepping.specs.code.Take.{take, in-side, close}
@@ -58,7 +58,7 @@ module _ (l : Layout) (p x : List ℕ) (ts : List Term) (count : ℕ) (ds : List
   -- a part's step, inside the sequences around it
   pub closed-goes : (n b : ℕ) (ks : List ℕ) (qs : List Awaiting) (R : Process) (u : Words) (r y : Stepped)
       (code : Done)
-      → Sound u → Tells l p x (u .nodes) ks qs → (r .outcome .event ≡ ✓ → r .outcome .met ≡ [])
+      → Sound u → TellsBehind l p x (u .nodes) ks qs → (r .outcome .event ≡ ✓ → r .outcome .met ≡ [])
       → Closes l p x count n b ks R u r code → wrapped qs (some r) ≡ some y → Fits u (y .outcome)
       → Goes l p x count n b R u y code
   closed-goes n b ks qs R u r y code sound tells none-met c steps fits =
@@ -74,7 +74,7 @@ module _ (l : Layout) (p x : List ℕ) (ts : List Term) (count : ℕ) (ds : List
         (P Q : Process) (size : ℕ) (u : Words) : Type 0 where
       pub entry : Entry l p x count s n b ks v k m o P Q u
       pub sideless : Sideless (u .nodes)
-      pub tells : Tells l p x (u .nodes) ks qs
+      pub tells : TellsBehind l p x (u .nodes) ks qs
       pub calls : Calls ts P
       pub other-calls : Calls ts Q
       pub enough : needs P ≤ deep

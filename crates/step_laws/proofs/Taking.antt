@@ -62,7 +62,7 @@ needs-split v k none none P Q h = absurd h
 needs-split v k none (some o) P Q h = refl
 needs-split v k (some m) o P Q h = refl
 
-module _ (l : Layout) (p x : List ℕ) (ts : List Term) (count : ℕ) (ds : List ℕ) (plan : Plan.Holds l p x ts)
+module _ (l : Layout) (p x : List ℕ) (ts : List Term) (count : ℕ) (ds : List ℕ) (plan : Plan.HoldsTable l p x ts)
     (numbered : Numbered p) where
   -- what looks no further down
   low-taken : (deep n b : ℕ) (P : Process) (ks : List ℕ) (at size : ℕ) (u : Words) → Low P

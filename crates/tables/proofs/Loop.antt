@@ -21,7 +21,7 @@ use Rattle.frames.specs.declared.Frame.{Frame}
 use Rattle.frames.specs.declared.Seen.{Seen}
 use Rattle.refusals.specs.declared.Said.{Said}
 use Rattle.refusals.specs.declared.Said.the-variants.{Goes, Stops}
-use Rattle.tables.specs.declared.Counts.{Counts}
+use Rattle.tables.specs.declared.TableCounts.{TableCounts}
 use Rattle.tables.specs.declared.Checked.{Checked}
 use Rattle.tables.specs.declared.Checked.the-variants.{Accepted, Refused}
 use Rattle.tables.proofs.Kept.{Keeps, ready, keeps-on}
@@ -44,7 +44,7 @@ module _ (S : Sofar) (t : List ℕ) (at n : ℕ) where
   behind-line e m h = let b = is-line t at e m h in rw (b .first, b .framed)
 
 -- the answer for a table that is accepted
-abbrev counts : Seen → Counts
+abbrev counts : Seen → TableCounts
 counts s = record { definitions = s .definitions; events = s .events; terms = s .terms }
 
 pub answer-accepted : (t : Sofar) (s : Seen) → s ≡ seen t → Accepted (counts s) ≡ answer (accepted t)

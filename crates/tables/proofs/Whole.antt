@@ -21,9 +21,9 @@ use Rattle.refusals.specs.code.Said.{opens, opened-by, opened, failure}
 use Rattle.tables.specs.words.Filled.{begins, Filled}
 use Rattle.frames.specs.declared.Frame.{Frame}
 use Rattle.frames.specs.declared.Frame.the-variants.{Opening, Definition, Term, Closing, Wrong}
-use Rattle.refusals.specs.declared.Opened.{Opened}
-use Rattle.refusals.specs.declared.Opened.the-variants.{Table, Fails}
-use Rattle.tables.specs.declared.Counts.{Counts}
+use Rattle.refusals.specs.declared.TableOpened.{TableOpened}
+use Rattle.refusals.specs.declared.TableOpened.the-variants.{Table, Fails}
+use Rattle.tables.specs.declared.TableCounts.{TableCounts}
 use Rattle.tables.specs.declared.Checked.{Checked}
 use Rattle.tables.specs.declared.Checked.the-variants.{Accepted, Refused}
 use Rattle.tables.proofs.Judged.{onward}
@@ -110,7 +110,7 @@ table-fails (l ∷ ls) k q = by-frame (frame l) refl q
         rw (f, r .1, r .0)
 
 -- the number that line 1 fails with is the one told
-pub failure-is : (x : Opened) (v n : ℕ) → x ≡ Fails v → n ≡ failure x → x ≡ Fails n
+pub failure-is : (x : TableOpened) (v n : ℕ) → x ≡ Fails v → n ≡ failure x → x ≡ Fails n
 unfolding failure
 failure-is x v n e q = e ∙ ap Fails (sym (q ∙ ap failure e))
 
@@ -129,12 +129,12 @@ unfolding answer
 answer-refuses (accepted s) n l e = let z : _≡_ {A = ℕ} 0 1 = cc in absurd (omega arith)
 answer-refuses (refused m k) n l e = let a : m ≡ n = cc in let b : k ≡ l = cc in ap₂ refused a b
 
-pub answer-accepts : (j : Judged) (c : Counts) → answer j ≡ Accepted c
+pub answer-accepts : (j : Judged) (c : TableCounts) → answer j ≡ Accepted c
     → (s : Sofar) × (j ≡ accepted s) × (c .terms ≡ length (s .terms))
 unfolding answer
 answer-accepts (accepted s) c e =
     let is : c ≡ record { definitions = s .definitions; events = s .events; terms = length (s .terms) } = cc in
-    (s, refl, ap (λ (x : Counts). x .terms) is)
+    (s, refl, ap (λ (x : TableCounts). x .terms) is)
 answer-accepts (refused m k) c e = let z : _≡_ {A = ℕ} 0 1 = cc in absurd (omega arith)
 
 -- a refusal leaves the columns as they were

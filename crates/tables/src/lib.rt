@@ -18,8 +18,8 @@ use lines::NO_LINE;
 use lines::TEXT_OVER_ROOM;
 use lines::WRONG_FRAME;
 use lines::next_line;
-use refusals::Opened;
 use refusals::Said;
+use refusals::TableOpened;
 use refusals::failure_of;
 use refusals::first_line;
 use refusals::stop_of;
@@ -38,7 +38,7 @@ ghost use Rattle.tables.specs.words.Filled.{begins, Filled};
 pub const TABLE_TEXT_ROOM: usize = 32768;
 
 // How much a table holds.
-pub struct Counts {
+pub struct TableCounts {
     pub definitions: usize,
     pub events: usize,
     pub terms: usize,
@@ -46,7 +46,7 @@ pub struct Counts {
 
 // What a table's text is: accepted, or the number of its refusal and the line.
 pub enum Checked {
-    Accepted(Counts),
+    Accepted(TableCounts),
     Refused { number: u8, line: usize },
 }
 
@@ -80,7 +80,7 @@ pub fn check(
         };
     }
     let first = first_line(text);
-    let Opened::Table {
+    let TableOpened::Table {
         definitions,
         events,
         next,
@@ -172,7 +172,7 @@ fn closed(text: &[u8], at: usize, s: Seen, line: usize) -> Checked
 {
     let found = next_line(text, at);
     match found {
-        Line::End => Checked::Accepted(Counts {
+        Line::End => Checked::Accepted(TableCounts {
             definitions: s.definitions,
             events: s.events,
             terms: s.terms,

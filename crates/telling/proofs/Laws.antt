@@ -8,7 +8,7 @@ use native.Mathlib.Omega.{arith}
 use lib.ListN.{length, set, getD, take}
 use lib.Seq.{sets, set-out, length-take-le, slice, slice-cons}
 use Rattle.lines.specs.Line.{hex, text, LF, two}
-use Rattle.spelling.specs.Puts.{Puts}
+use Rattle.spelling.specs.words.Puts.{Puts}
 use Rattle.spelling.proofs.Putting.{puts-then, Owed, owed-all, owed-less, owed-length}
 use Rattle.telling.specs.ListingFrame.{refusal-frame, alone}
 

@@ -10,7 +10,7 @@ ghost use mathlib.Core.List.{[], _∷_};
 ghost use Prim.Native.Nat.{_≤_};
 ghost use lib.ListN.{length, take};
 ghost use Rattle.lines.specs.Line.{text};
-ghost use Rattle.spelling.specs.Puts.{Puts};
+ghost use Rattle.spelling.specs.words.Puts.{Puts, number-cursor, line-cursor};
 ghost use Rattle.telling.specs.ListingFrame.{step-frame, status-frame, alone};
 
 // First bytes of frames.
@@ -22,7 +22,7 @@ const REFUSAL_FRAME: u8 = 0x4e;
 
 // `40 00` τ, `40 01` ✓, `40 02 ee` event ee.
 pub fn put_event(event: Event, at: usize, out: &mut [u8]) -> usize
-    requires { ⌜ at ≤ 2000000 ⌝ }
+    requires { ⌜ at ≤ line-cursor ⌝ }
     ensures { λ r. ⌜ Puts at (text (step-frame event ∷ [])) (now (out .entry)) (now (out .exit)) r ⌝ }
 {
     let a = put_byte(at, SHOWN_FRAME, out);
@@ -38,7 +38,7 @@ pub fn put_event(event: Event, at: usize, out: &mut [u8]) -> usize
 
 // `41 ss`: 00 live, 01 ended, 02 stuck.
 pub fn put_status(status: Status, at: usize, out: &mut [u8]) -> usize
-    requires { ⌜ at ≤ 2000000 ⌝ }
+    requires { ⌜ at ≤ line-cursor ⌝ }
     ensures { λ r. ⌜ Puts at (text (status-frame status ∷ [])) (now (out .entry)) (now (out .exit)) r ⌝ }
 {
     let a = put_byte(at, STATUS_FRAME, out);
@@ -51,7 +51,7 @@ pub fn put_status(status: Status, at: usize, out: &mut [u8]) -> usize
 
 // `4e rr llll`: a refusal's number and line.
 pub fn put_refusal(number: u8, line: usize, at: usize, out: &mut [u8]) -> usize
-    requires { ⌜ at ≤ 2000000 ⌝ }
+    requires { ⌜ at ≤ line-cursor ⌝ }
     ensures { λ r. ⌜ Puts at (alone number line) (now (out .entry)) (now (out .exit)) r ⌝ }
 {
     let a = put_byte(at, REFUSAL_FRAME, out);
@@ -62,7 +62,7 @@ pub fn put_refusal(number: u8, line: usize, at: usize, out: &mut [u8]) -> usize
 
 // The last byte of a line.
 fn put_last(byte: u8, at: usize, out: &mut [u8]) -> usize
-    requires { ⌜ at ≤ 2500000 ⌝ }
+    requires { ⌜ at ≤ number-cursor ⌝ }
     ensures { λ r. ⌜ Puts at (text ((byte ∷ []) ∷ [])) (now (out .entry)) (now (out .exit)) r ⌝ }
 {
     let a = put_byte(at, byte, out);
@@ -71,7 +71,7 @@ fn put_last(byte: u8, at: usize, out: &mut [u8]) -> usize
 
 // The first characters of a text, as they stand.
 pub fn put_copy(characters: &[u8], count: usize, from: usize, out: &mut [u8]) -> usize
-    requires { ⌜ (count ≤ length (now characters)) × (from ≤ 2000000) × (count ≤ 65536) ⌝ }
+    requires { ⌜ (count ≤ length (now characters)) × (from ≤ line-cursor) × (count ≤ 65536) ⌝ }
     ensures { λ r. ⌜ Puts from (take count (now (characters .entry))) (now (out .entry)) (now (out .exit)) r ⌝ }
 {
     let end = from + count;

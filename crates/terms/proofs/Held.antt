@@ -13,7 +13,7 @@ use Rattle.kinds.specs.Kind as Kind
 use Rattle.kinds.specs.Kind.{subterms}
 use Rattle.terms.specs.Term.{Leaf, leaf-kind, leaf-payload, Operator, operator-kind, operator-payload}
 use Rattle.terms.specs.Term.{Term, leaf, prefix, binary, size, preorder, flat, starts, definitions-of}
-use Rattle.terms.specs.words.Held.{Holds}
+use Rattle.terms.specs.words.Held.{HoldsTerm}
 use Rattle.frames.specs.TableFrame.{term-room}
 use Rattle.tables.specs.Table.{Item, Sofar, accepted, judged}
 use Rattle.tables.specs.words.Columns.{column, kinds, payloads, owners, roots, afters}
@@ -34,18 +34,18 @@ Same i ys xs = (j : ℕ) → i ≤ j → getD ys j 0 ≡ getD xs j 0
 
 module _ (ks ps : List ℕ) where
   -- what stands at a term is the number of the term behind its tree
-  pub holds-behind : (xs : List ℕ) (i : ℕ) (t : Term) → Holds ks ps xs i t → getD xs i 0 ≡ i + size t
+  pub holds-behind : (xs : List ℕ) (i : ℕ) (t : Term) → HoldsTerm ks ps xs i t → getD xs i 0 ≡ i + size t
   unfolding size
   holds-behind xs i (leaf l) h = omega (arith, h .2)
   holds-behind xs i (prefix e t) h = omega (arith, h .2, holds-behind xs (suc i) t (h .3))
   holds-behind xs i (binary o t u) h =
       omega (arith, h .2, holds-behind xs (suc i) t (h .3), holds-behind xs (getD xs (suc i) 0) u (h .4))
 
-  pub holds-above : (xs : List ℕ) (i : ℕ) (t : Term) → Holds ks ps xs i t → i < getD xs i 0
+  pub holds-above : (xs : List ℕ) (i : ℕ) (t : Term) → HoldsTerm ks ps xs i t → i < getD xs i 0
   holds-above xs i t h = omega (arith, holds-behind xs i t h, size-some t)
 
   -- a tree is held by what stands from its own number on
-  holds-kept : (xs ys : List ℕ) (i : ℕ) (t : Term) → Holds ks ps xs i t → Same i ys xs → Holds ks ps ys i t
+  holds-kept : (xs ys : List ℕ) (i : ℕ) (t : Term) → HoldsTerm ks ps xs i t → Same i ys xs → HoldsTerm ks ps ys i t
   holds-kept xs ys i (leaf l) h same = (h .0, h .1, same i (omega arith) ∙ h .2)
   holds-kept xs ys i (prefix e t) h same = (
     h .0,
@@ -67,7 +67,7 @@ module _ (ks ps : List ℕ) where
   -- definitions held one behind the other, from number i to number n
   abbrev pub Forest : List ℕ → ℕ → List Term → ℕ → Type 0
   Forest xs i [] n = i ≡ n
-  Forest xs i (t ∷ ts) n = Holds ks ps xs i t × Forest xs (i + size t) ts n
+  Forest xs i (t ∷ ts) n = HoldsTerm ks ps xs i t × Forest xs (i + size t) ts n
 
   forest-kept : (xs ys : List ℕ) (i : ℕ) (ts : List Term) (n : ℕ) → Forest xs i ts n → Same i ys xs
       → Forest ys i ts n
@@ -138,14 +138,14 @@ module _ (ks xs : List ℕ) (n i : ℕ) (lt : i < n) (fits : n ≤ length xs) wh
 
   module _ (ps : List ℕ) where
     walk-leaf : (l : Leaf) → getD ks i 0 ≡ leaf-kind l → getD ps i 0 ≡ leaf-payload l
-        → Walks ks xs n (suc i) (λ ys. Unit {0}) → Walks ks xs n i (λ ys. Holds ks ps ys i (leaf l))
+        → Walks ks xs n (suc i) (λ ys. Unit {0}) → Walks ks xs n i (λ ys. HoldsTerm ks ps ys i (leaf l))
     walk-leaf l k p w =
         let none : subterms (getD ks i 0) ≡ 0 = rw k (leaf-subterms l) in
         stores (suc i) _ _ w (past-none (suc i) (w .after) _ none) (λ ys stands same. (k, p, stands))
 
     walk-prefix : (e : ℕ) (t : Term) → getD ks i 0 ≡ Kind.prefix → getD ps i 0 ≡ e
-        → Walks ks xs n (suc i) (λ ys. Holds ks ps ys (suc i) t)
-        → Walks ks xs n i (λ ys. Holds ks ps ys i (prefix e t))
+        → Walks ks xs n (suc i) (λ ys. HoldsTerm ks ps ys (suc i) t)
+        → Walks ks xs n i (λ ys. HoldsTerm ks ps ys i (prefix e t))
     unfolding subterms
     walk-prefix e t k p w =
         let one : subterms (getD ks i 0) ≡ 1 = rw k in
@@ -158,8 +158,8 @@ module _ (ks xs : List ℕ) (n i : ℕ) (lt : i < n) (fits : n ≤ length xs) wh
         ))
 
     walk-binary : (o : Operator) (t u : Term) → getD ks i 0 ≡ operator-kind o → getD ps i 0 ≡ operator-payload o
-        → Walks ks xs n (suc i) (λ ys. Holds ks ps ys (suc i) t × Holds ks ps ys (suc i + size t) u)
-        → Walks ks xs n i (λ ys. Holds ks ps ys i (binary o t u))
+        → Walks ks xs n (suc i) (λ ys. HoldsTerm ks ps ys (suc i) t × HoldsTerm ks ps ys (suc i + size t) u)
+        → Walks ks xs n i (λ ys. HoldsTerm ks ps ys i (binary o t u))
     walk-binary o t u k p w =
         let two : subterms (getD ks i 0) ≡ 2 = rw k (operator-subterms o) in
         let m : ℕ = suc i + size t in
@@ -189,7 +189,7 @@ module _ (ks ps os : List ℕ) where
 
   -- the walk over a tree holds it
   walk-tree : (d : ℕ) (t : Term) (xs : List ℕ) (i n : ℕ) → n ≡ i + size t → n ≤ length xs
-      → Laid ks ps os i (preorder d t) → Walks ks xs n i (λ ys. Holds ks ps ys i t)
+      → Laid ks ps os i (preorder d t) → Walks ks xs n i (λ ys. HoldsTerm ks ps ys i t)
   unfolding preorder size
   walk-tree d (leaf l) xs i n e fits h =
       walk-leaf ks xs n i (omega arith) fits ps l (h .0 .0) (h .0 .1)
@@ -202,7 +202,7 @@ module _ (ks ps os : List ℕ) where
       let r = laid-split (suc i) d t (preorder d u) (h .1) in
       let b = walk-tree d u xs m n (omega arith) fits (r .1) in
       let a = walk-tree d t (b .after) (suc i) m refl (omega (arith, b .long)) (r .0) in
-      let kept : Holds ks ps (a .after) m u = holds-kept ks ps (b .after) (a .after) m u (b .holds) (a .same) in
+      let kept : HoldsTerm ks ps (a .after) m u = holds-kept ks ps (b .after) (a .after) m u (b .holds) (a .same) in
       let w = goes-on ks xs n (suc i) m _ _ (omega arith) b a kept in
       walk-binary ks xs n i (omega arith) fits ps o t u (h .0 .0) (h .0 .1) w
 
@@ -244,7 +244,7 @@ all-preorder d (binary o t u) =
 
 -- a tree in the columns: held from number i on, its terms in definition k, all in front of number n
 pub record Stands (ks ps os xs : List ℕ) (i k n : ℕ) (t : Term) : Type 0 where
-  pub holds : Holds ks ps xs i t
+  pub holds : HoldsTerm ks ps xs i t
   pub owned : (j : ℕ) → i ≤ j → j < i + size t → getD os j 0 ≡ k
   pub inside : i + size t ≤ n
 

@@ -1,8 +1,8 @@
 // The tracking program: reads a table and then a script from standard input, and prints their listing. What it prints is
 // the library's; here it is only read and written.
-use inputs::INPUT_ROOM;
 use inputs::STANDARD_INPUT;
 use inputs::STANDARD_OUTPUT;
+use inputs::input_room;
 use lines::characters;
 use listing::list;
 
@@ -10,9 +10,13 @@ use listing::list;
 const LISTING_ROOM: usize = 131086;
 
 fn main() {
-    let mut input = [0u8; INPUT_ROOM];
+    let mut input = input_room();
     let count = io::read_full(STANDARD_INPUT, &mut input);
-    let mut out = [0u8; LISTING_ROOM];
+    let mut out = listing_room();
     let length = list(&input[..count], &mut out);
     io::write_all(STANDARD_OUTPUT, characters(&out, 0, length));
+}
+
+fn listing_room() -> [u8; LISTING_ROOM] {
+    [0u8; LISTING_ROOM]
 }

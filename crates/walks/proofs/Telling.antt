@@ -21,7 +21,7 @@ use Rattle.tables.specs.Table.{Sofar, accepted, judged}
 use Rattle.tables.specs.words.Columns.{kinds, owners, afters, roots}
 use Rattle.terms.specs.Term.{Term, Operator, call, SKIP, STOP, internal, external, sequence, parallel, size}
 use Rattle.terms.specs.Term.{leaf-kind, operator-kind, definitions-of}
-use Rattle.terms.specs.words.Held.{Holds}
+use Rattle.terms.specs.words.Held.{HoldsTerm}
 use Rattle.terms.specs.Term as Term
 use Rattle.terms.proofs.Held.{holds-behind, size-some}
 use Rattle.places.specs.Place.{Place, path-in, term-at, left-path, own, begins, under}
@@ -69,7 +69,7 @@ tail-short T j r (inl e) = omega (arith, ap length e)
 tail-short T j r (inr (p, e)) = omega (arith, ap length e)
 
 -- a kind that splits is that of a term that does
-kind-splits : (ks ps xs : List ℕ) (i : ℕ) (ts : List Term) (T : Term) → Holds ks ps xs i T
+kind-splits : (ks ps xs : List ℕ) (i : ℕ) (ts : List Term) (T : Term) → HoldsTerm ks ps xs i T
     → (eqb (getD ks i 0) Kind.external || eqb (getD ks i 0) Kind.parallel) ≡ splits-term ts (some T)
 unfolding leaf-kind operator-kind splits-term
 kind-splits ks ps xs i ts (Term.leaf (call d)) h = rw (h .0)
@@ -169,9 +169,9 @@ module _ (text : List ℕ) (s : Sofar) (q : judged text ≡ accepted s) where
     defined = checked-roots text s q (b .definition) (b .tree) (b .is)
 
     -- they hold its term
-    held : Holds (kinds s) (defined .payloads) (afters s) t (term-at (b .tree) (b .number))
+    held : HoldsTerm (kinds s) (defined .payloads) (afters s) t (term-at (b .tree) (b .number))
     held =
-        subst (λ i. Holds (kinds s) (defined .payloads) (afters s) i (term-at (b .tree) (b .number))) (sym (b .sum))
+        subst (λ i. HoldsTerm (kinds s) (defined .payloads) (afters s) i (term-at (b .tree) (b .number))) (sym (b .sum))
         (holds-at (kinds s) (defined .payloads) (afters s) (b .tree) (b .number) (b .inside)
         (root (b .definition)) (defined .held))
 

@@ -23,7 +23,7 @@ use Rattle.plans.specs.words.Plan.{Layout, kind, second, around, Planned}
 use Rattle.control.specs.words.Words.{node}
 use Rattle.control.specs.words.Control as Control
 use Rattle.control.specs.words.Control.{state, term, frame, at-end, Around, split-kind, Untouched, Rests}
-use Rattle.control.specs.words.Control.{Splits, Holds}
+use Rattle.control.specs.words.Control.{Splits, HoldsControl}
 use Rattle.control.specs.words.Sums.{capped}
 use Rattle.weights.specs.code.Rules as Rules
 use Rattle.weights.specs.code.Rules.{resized}
@@ -35,7 +35,7 @@ use Rattle.weights.specs.declared.Weighed.the-variants.{Nothing}
 use Rattle.control.proofs.Capped.{capped-small}
 use Rattle.weighing.proofs.Told.{number, From, weight, weight-of, wrapped, Single, some-behind}
 use Rattle.weighing.proofs.Told.{weight-none, weight-settled, digit-none, next-at, from-at, from-left}
-use Rattle.control.proofs.Chains.{Awaiting as Behind, Tells as Behinds}
+use Rattle.control.proofs.Chains.{Awaiting as Behind, TellsBehind as Behinds}
 use Rattle.weighing.proofs.SideTold.{in-front, entered-before, by-first, by-second, by-both}
 use Rattle.weighing.proofs.TermTold.{levels, untouched-cells, untouched-on, next-term, set-in}
 use Rattle.weighing.proofs.TermTold.{split-some, alone, entered-other, term-told}
@@ -143,7 +143,7 @@ module _ (l : Layout) (p x w : List ℕ) where
       go false e = or-true (not (eqb f b))
 
   -- what has ended stands as ended, with no sequence around it, and nothing else does
-  ended-state : (P : Process) (n b : ℕ) (ks : List ℕ) → Holds l p x w n b P ks
+  ended-state : (P : Process) (n b : ℕ) (ks : List ℕ) → HoldsControl l p x w n b P ks
       → eqb (state w n) at-end ≡ at-Ω P && is-bare ks
   unfolding at-Ω is-bare
   ended-state (leaf v e) n b ks h = rw (h .rests)
@@ -178,7 +178,7 @@ module _ (ts : List Term) (l : Layout) (p x : List ℕ) (count : ℕ) (ds : List
   abbrev pub TellsAt : Process → ℕ → Type 0
   TellsAt P left =
       (n t b : ℕ) (ks : List ℕ) (qs : List Behind) (at size : ℕ) (a : Address) (s : At)
-      → Holds l p x w n b P ks → Behinds l p x w ks qs → From ds count at a → deep P ≤ left → Below f P
+      → HoldsControl l p x w n b P ks → Behinds l p x w ks qs → From ds count at a → deep P ≤ left → Below f P
       → Since base f s → size ≡ length ks + cells P → size ≤ 2048
       → at-reference p x count ds w g arcs left n t b at size ≡ weight-of count (wrapped qs (step ts P s a))
 
@@ -204,7 +204,7 @@ module _ (ts : List Term) (l : Layout) (p x : List ℕ) (count : ℕ) (ds : List
     some-left P tells (suc left) = tells left
 
     -- a term that no step has touched
-    rests-told : (P : Process) → ((n b : ℕ) (ks : List ℕ) → Holds l p x w n b P ks → Rests l p x w n b ks P)
+    rests-told : (P : Process) → ((n b : ℕ) (ks : List ℕ) → HoldsControl l p x w n b P ks → Rests l p x w n b ks P)
         → (left : ℕ) → TellsAt P left
     unfolding at-reference
     rests-told P rests = some-left P λ left n t b ks qs at size a s held c from d below since e few.
@@ -219,11 +219,11 @@ module _ (ts : List Term) (l : Layout) (p x : List ℕ) (count : ℕ) (ds : List
 
     -- a side that has stepped, and one that has not
     held-side : (k : Split) (n i r : ℕ) (P : Process) (left t : ℕ) → kind p (term w n) ≡ split-kind k → r ≡ i
-        → TellsAt P left → Holds l p x w i (Control.inside p k (term w n) n (frame w n)) P [] → deep P ≤ left
+        → TellsAt P left → HoldsControl l p x w i (Control.inside p k (term w n) n (frame w n)) P [] → deep P ≤ left
         → i < f → Below f P → cells P ≤ 2048 → Side (some i) P left r t (Bound p w n)
     unfolding wrapped is-bare
     held-side k n i r P left t kind-is e ih h d hi below few =
-        let there = subst (λ b. Holds l p x w i b P []) (inside-is p k (term w n) n (frame w n) kind-is) h in
+        let there = subst (λ b. HoldsControl l p x w i b P []) (inside-is p k (term w n) n (frame w n) kind-is) h in
         record {
           ended-there = rw e (ended-state l p x w P i (Bound p w n) [] there ∙ and-true (at-Ω P));
           named = λ q. (ap some (sym e), omega (arith, e, hi));
@@ -429,7 +429,7 @@ pub whole-told : (ts : List Term) (l : Layout) (p x : List ℕ) (count : ℕ) (d
     (P : Process) (left n t b : ℕ) (a : Address) (s : At)
     → ((i o : ℕ) (t : Term) → Planned l p x i o t → levels t ≤ 66)
     → ((m n k : ℕ) → length (parents (some m) (some n) k (s .arcs)) ≡ Looking.parents g m n 0 arcs)
-    → (state w 0 ≡ at-end → ⊥) → Holds l p x w n b P [] → From ds count 0 a → Below (s .fresh) P → cells P ≤ left
+    → (state w 0 ≡ at-end → ⊥) → HoldsControl l p x w n b P [] → From ds count 0 a → Below (s .fresh) P → cells P ≤ left
     → cells P ≤ 2048
     → at-reference p x count ds w g arcs left n t b 0 (cells P) ≡ weight-of count (step ts P s a)
 unfolding wrapped

@@ -35,6 +35,7 @@ use Rattle.weighing.proofs.Told.{weight-none, τ-goes-on, visible-goes-
 use Rattle.weighing.proofs.Told.{weight-settled, digit-none, next-at, from-at, from-left}
 use Rattle.control.proofs.Chains.{Awaiting as Behind}
 use Rattle.weighing.proofs.SideTold.{in-front, entered-now, by-first, by-second, by-both}
+use Rattle.columns.specs.words.Columns.{look}
 
 -- the levels of a term: a prefix hides what is below it
 unfoldable pub levels : Term → ℕ
@@ -108,7 +109,7 @@ next-term p i h =
     capped-small (i + 1) (omega arith) ∙ e
 
 pub set-in : (p x : List ℕ) (i : ℕ) → 1 ≤ kind p i → set-of x i ≡ getD x i 0
-unfolding set-of
+unfolding look
 set-in p x i h = rw (lt-ltb i term-room (kind-room p i h))
 
 -- a split's kind is one
@@ -175,18 +176,18 @@ module _ (ds : List ℕ) (count at size : ℕ) (qs : List Behind) (a : Address) 
 
 module _ (ts : List Term) (l : Layout) (p x : List ℕ) (count : ℕ) (ds : List ℕ) where
   -- a term's weight is that of its step
-  abbrev pub Tells : Term → ℕ → Type 0
-  Tells t left =
+  abbrev pub TellsTerm : Term → ℕ → Type 0
+  TellsTerm t left =
       (i o : ℕ) (nested : Bool) (at size : ℕ) (qs : List Behind) (a : Address) (s : At)
       → Planned l p x i o t → From ds count at a → levels t ≤ left → Single qs
       → is-within nested o ≡ some-behind qs → size ≡ suc (length qs) → size + 2 * left ≤ 65535
       → of-term p x count ds left i nested at size
       ≡ weight-of count (wrapped qs (step ts (untouched (l .place i) t) s a))
 
-  nothing-left : (t : Term) → Tells t zero
+  nothing-left : (t : Term) → TellsTerm t zero
   nothing-left t i o nested at size qs a s pl f lv = absurd (omega (arith, levels-some t))
 
-  leaf-told : (f : Leaf) (left : ℕ) → Tells (leaf f) (suc left)
+  leaf-told : (f : Leaf) (left : ℕ) → TellsTerm (leaf f) (suc left)
   unfolding of-term leaf-kind is-split by-leaf untouched step cells
   leaf-told (call n) left i o nested at size qs a s pl f lv u w e few =
       rw (pl .0)
@@ -196,7 +197,7 @@ module _ (ts : List Term) (l : Layout) (p x : List ℕ) (count : ℕ) (ds : List
   leaf-told STOP left i o nested at size qs a s pl f lv u w e few =
       rw (pl .0) (leaf-on ds count at size qs a f e (omega arith) ⊥′ (l .place i) s refl)
 
-  prefix-told : (k : ℕ) (t : Term) (left : ℕ) → Tells (prefix k t) (suc left)
+  prefix-told : (k : ℕ) (t : Term) (left : ℕ) → TellsTerm (prefix k t) (suc left)
   unfolding of-term is-split by-leaf untouched step
   prefix-told k t left i o nested at size qs a s pl f lv u w e few =
       let small : k < 64 = pl .3 in
@@ -206,7 +207,7 @@ module _ (ts : List Term) (l : Layout) (p x : List ℕ) (count : ℕ) (ds : List
       (untouched-cells (below (l .place i) 2) t))
 
   -- an internal choice goes to the side that a digit names
-  internal-told : (t v : Term) (left : ℕ) → Tells (binary internal t v) (suc left)
+  internal-told : (t v : Term) (left : ℕ) → TellsTerm (binary internal t v) (suc left)
   unfolding of-term operator-kind is-split by-leaf untouched joined step number
   internal-told t v left i o nested at size qs [] s pl f lv u w e few =
       rw (pl .0, digit-none ds count at f) (weight-none count qs)
@@ -224,7 +225,7 @@ module _ (ts : List Term) (l : Layout) (p x : List ℕ) (count : ℕ) (ds : List
       rw (pl .0, f .0) (weight-none count qs)
 
   -- a sequence goes to its left, with itself around it
-  sequence-told : (t v : Term) (left : ℕ) → Tells t left → Tells (binary sequence t v) (suc left)
+  sequence-told : (t v : Term) (left : ℕ) → TellsTerm t left → TellsTerm (binary sequence t v) (suc left)
   unfolding of-term operator-kind untouched joined step first-around wrapped levels some-behind
   sequence-told t v left ih i o nested at size qs a s pl f lv u w e few =
       let known : 1 ≤ kind p i = rw (pl .0) (omega arith) in
@@ -240,7 +241,7 @@ module _ (ts : List Term) (l : Layout) (p x : List ℕ) (count : ℕ) (ds : List
       (at : ℕ) (a : Address) (s : At) → From ds count at a
       → of-term p x count ds left j false at 1 ≡ weight-of count (step ts P s a)
 
-  pub alone : (t : Term) (left : ℕ) → Tells t left → (j : ℕ) (v : Place) → l .place j ≡ v → Planned l p x j 0 t
+  pub alone : (t : Term) (left : ℕ) → TellsTerm t left → (j : ℕ) (v : Place) → l .place j ≡ v → Planned l p x j 0 t
       → levels t ≤ left → 1 + 2 * left ≤ 65535 → Alone left j (untouched v t)
   unfolding wrapped is-within some-behind
   alone t left ih j v e pl lv few at a s f = rw e at (ih j 0 false at 1 [] a s pl f lv tt refl refl few)
@@ -323,7 +324,7 @@ module _ (ts : List Term) (l : Layout) (p x : List ℕ) (count : ℕ) (ds : List
         (weight-none count qs)
 
   -- the terms of a split's sides
-  sides-told : (k : Split) (t v : Term) (left : ℕ) → Tells t left → Tells v left
+  sides-told : (k : Split) (t v : Term) (left : ℕ) → TellsTerm t left → TellsTerm v left
       → (i o : ℕ) (nested : Bool) (at size : ℕ) (qs : List Behind) (a : Address) (s : At)
       → kind p i ≡ split-kind k → around p i ≡ o → getD x i 0 ≡ split-set k → l .place (suc i) ≡ below (l .place i) 1
       → l .place (second p i) ≡ below (l .place i) 2 → Planned l p x (suc i) 0 t → Planned l p x (second p i) 0 v
@@ -342,7 +343,7 @@ module _ (ts : List Term) (l : Layout) (p x : List ℕ) (count : ℕ) (ds : List
       (omega arith)
 
   -- a term that no step has touched weighs what its step is
-  pub term-told : (t : Term) (left : ℕ) → Tells t left
+  pub term-told : (t : Term) (left : ℕ) → TellsTerm t left
   unfolding
       untouched joined levels operator-kind operator-payload split-kind split-set first-around second-around
   term-told (leaf f) zero = nothing-left (leaf f)

@@ -1,6 +1,7 @@
 // Weighing a step: what the derivation that an address names would show and add, read off the control and the
 // terms below it, from the outside inward. Nothing is written. The recursion goes at most 2,048 calls deep.
 use columns::Payloads;
+use columns::set_of;
 use control::ENTERED;
 use control::FRAME;
 use control::Nodes;
@@ -19,7 +20,6 @@ use looking::is_side;
 use looking::is_split;
 use looking::is_within;
 use looking::parents;
-use looking::set_of;
 use looking::taken;
 use plans::PARALLEL_WORD;
 use plans::Plan;
@@ -45,7 +45,7 @@ const WEIGH_LEVELS: usize = 66;
 
 // Weighs the step of a term that no step has touched, by the digits from `at` on; `nested` where a sequence is
 // around it by its frame. Its part of control has `size` cells.
-pub fn weigh_term(
+fn weigh_term(
     t: usize,
     nested: bool,
     at: usize,
@@ -201,7 +201,7 @@ pub fn weigh_at(
 }
 
 // Weighs the end of a parallel whose sides have ended.
-pub fn weigh_end(
+fn weigh_end(
     n: usize,
     kind: usize,
     at: usize,

@@ -82,7 +82,7 @@ pub fn by_leaf(
 }
 
 // A ✓ inside a sequence starts its right, and shows as τ.
-pub fn settled(found: Weighed, within: bool) -> Weighed
+fn settled(found: Weighed, within: bool) -> Weighed
     ensures { λ r. ⌜ r ≡ spec.settled found within ⌝ }
 {
     let Weighed::Derived(w) = found else {

@@ -10,7 +10,7 @@ use lib.ListN.{length}
 use lib.Dec.{leb}
 use borrow.Author.Tests.{le-leb, lt-leb}
 use Rattle.lines.specs.Line.{two, text}
-use Rattle.spelling.specs.Puts.{Puts}
+use Rattle.spelling.specs.words.Puts.{Puts}
 use Rattle.spelling.proofs.Putting.{puts-then}
 use Rattle.spelling.proofs.Spelt.{text-append}
 use Rattle.rules.specs.Run.{arc-room, meeting-room}
@@ -21,7 +21,7 @@ use Rattle.graphs.specs.Graph.{Graph}
 use Rattle.graphs.specs.Saved.{opening-frame, node-frame, pair-frame, arc-code, meeting-code, last-frame}
 use Rattle.graphs.specs.Saved.{frames, graph-text}
 use Rattle.graphs.proofs.Spelled.{nodes-length, text-length}
-use Rattle.links.specs.declared.Counts.{Counts}
+use Rattle.links.specs.declared.GraphCounts.{GraphCounts}
 use Rattle.writing.specs.declared.Saved.the-variants.{Written, Short}
 use Rattle.framing.specs.words.Told.{labels-told, graph-told}
 use Rattle.writing.specs.words.Slice.{answer, left}
@@ -44,7 +44,7 @@ parts g =
     ∙ ap (λ (l : List ℕ). l ++ text meetings ++ text (last-frame ∷ [])) (text-append (opening ++ nodes) arcs)
     ∙ ap (λ (l : List ℕ). l ++ text arcs ++ text meetings ++ text (last-frame ∷ [])) (text-append opening nodes)
 
-module _ (c : Columns) (ms g : List ℕ) (counts : Counts) {n a m : ℕ} (nodes : n ≡ min (counts .nodes) reference-room)
+module _ (c : Columns) (ms g : List ℕ) (counts : GraphCounts) {n a m : ℕ} (nodes : n ≡ min (counts .nodes) reference-room)
     (arcs : a ≡ min (counts .arcs) arc-room)
     (meetings : m ≡ min (counts .meetings) meeting-room) where
   -- the length of the text

@@ -16,7 +16,7 @@ use graphs::ARC_FRAME;
 use graphs::MEETING_FRAME;
 use lines::SLICE_TOO_SHORT;
 use links::Column;
-use links::Counts;
+use links::GraphCounts;
 use links::at_most;
 use rules::ARC_ROOM;
 use rules::MEETING_ROOM;
@@ -41,7 +41,7 @@ pub enum Saved {
 // Writes a graph with these counts, by the marks of its nodes. `Short` leaves the slice as it was, and bytes
 // past the text keep their content.
 pub fn write(
-    counts: Counts,
+    counts: GraphCounts,
     labels: &Column,
     graph: &Track,
     kinds: &Kinds,

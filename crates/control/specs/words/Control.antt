@@ -124,21 +124,21 @@ module _ (l : Layout) (p x w : List ℕ) where
     pub right : Untouched (second p k) (around p k) Q
 
   -- reference n holds a process that has sequences ks around it up to frame b
-  abbrev pub Holds : ℕ → ℕ → Process → List ℕ → Type 0
-  Holds n b (leaf v f) ks = Rests n b ks (leaf v f)
-  Holds n b (prefix v e P) ks = Rests n b ks (prefix v e P)
-  Holds n b (internal v P Q) ks = Rests n b ks (internal v P Q)
-  Holds n b (split v k none none P Q) ks = Rests n b ks (split v k none none P Q)
-  Holds n b (split v k (some i) none P Q) ks =
+  abbrev pub HoldsControl : ℕ → ℕ → Process → List ℕ → Type 0
+  HoldsControl n b (leaf v f) ks = Rests n b ks (leaf v f)
+  HoldsControl n b (prefix v e P) ks = Rests n b ks (prefix v e P)
+  HoldsControl n b (internal v P Q) ks = Rests n b ks (internal v P Q)
+  HoldsControl n b (split v k none none P Q) ks = Rests n b ks (split v k none none P Q)
+  HoldsControl n b (split v k (some i) none P Q) ks =
       Splits n b ks v k P Q × (first w n ≡ i) × (second-side w n ≡ 0)
-      × Holds i (inside p k (term w n) n (frame w n)) P [] × Untouched (second p (term w n)) 0 Q
-  Holds n b (split v k none (some j) P Q) ks =
+      × HoldsControl i (inside p k (term w n) n (frame w n)) P [] × Untouched (second p (term w n)) 0 Q
+  HoldsControl n b (split v k none (some j) P Q) ks =
       Splits n b ks v k P Q × (first w n ≡ 0) × (second-side w n ≡ j)
-      × Untouched (suc (term w n)) 0 P × Holds j (inside p k (term w n) n (frame w n)) Q []
-  Holds n b (split v k (some i) (some j) P Q) ks =
+      × Untouched (suc (term w n)) 0 P × HoldsControl j (inside p k (term w n) n (frame w n)) Q []
+  HoldsControl n b (split v k (some i) (some j) P Q) ks =
       Splits n b ks v k P Q × (first w n ≡ i) × (second-side w n ≡ j)
-      × Holds i (inside p k (term w n) n (frame w n)) P [] × Holds j (inside p k (term w n) n (frame w n)) Q []
-  Holds n b (sequence v false P Q) ks = Rests n b ks (sequence v false P Q)
-  Holds n b (sequence v true P Q) ks = (k : ℕ) × Follows k v Q × Holds n b P (k ∷ ks)
-  Holds n b Ω ks = (b < n) × (state w n ≡ at-end) × (ks ≡ [])
-  Holds n b ⊥′ ks = Stands n b ks × (state w n ≡ dead)
+      × HoldsControl i (inside p k (term w n) n (frame w n)) P [] × HoldsControl j (inside p k (term w n) n (frame w n)) Q []
+  HoldsControl n b (sequence v false P Q) ks = Rests n b ks (sequence v false P Q)
+  HoldsControl n b (sequence v true P Q) ks = (k : ℕ) × Follows k v Q × HoldsControl n b P (k ∷ ks)
+  HoldsControl n b Ω ks = (b < n) × (state w n ≡ at-end) × (ks ≡ [])
+  HoldsControl n b ⊥′ ks = Stands n b ks × (state w n ≡ dead)

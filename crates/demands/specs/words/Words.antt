@@ -15,7 +15,7 @@ use Rattle.runs.specs.words.Held.{Words, Holds, Keeps}
 use Rattle.runs.specs.declared.Answer.{Answer}
 use Rattle.graphs.specs.Graph.{Graph}
 use Rattle.graphs.specs.Saved.{graph-text}
-use Rattle.links.specs.declared.Counts.{Counts}
+use Rattle.links.specs.declared.GraphCounts.{GraphCounts}
 use Rattle.framing.specs.words.Told.{graph-told}
 use Rattle.writing.specs.words.Slice.{answer, left}
 use Rattle.writing.specs.declared.Saved.{Saved}
@@ -44,5 +44,5 @@ abbrev pub Writes : Graph → List ℕ → Saved → List ℕ → Type 0
 Writes g slice r slice′ = (r ≡ answer (graph-text g) (length slice)) × (slice′ ≡ left (graph-text g) slice)
 
 -- the graph that columns tell, with the places of a table's columns
-abbrev pub told-by : List ℕ → List ℕ → List ℕ → List ℕ → List ℕ → List ℕ → Counts → Graph
+abbrev pub told-by : List ℕ → List ℕ → List ℕ → List ℕ → List ℕ → List ℕ → GraphCounts → Graph
 told-by ks os xs rs labels graph n = graph-told (columns ks os xs rs) labels graph n

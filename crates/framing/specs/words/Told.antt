@@ -14,7 +14,7 @@ use Rattle.plans.specs.words.Layout.{place-of}
 use Rattle.control.specs.words.Views.{pairs}
 use Rattle.graphs.specs.Graph.{Graph}
 use Rattle.links.specs.words.Columns.{at}
-use Rattle.links.specs.declared.Counts.{Counts}
+use Rattle.links.specs.declared.GraphCounts.{GraphCounts}
 
 -- the literal that a mark is of: 1 the left-hand side of definition 00, even ones a term's own, odd ones a prefix's event
 unfoldable pub literal : ℕ → Literal
@@ -33,7 +33,7 @@ module _ (c : Columns) where
       record { reference = k; place = place-by (at ms k) } ∷ labels-told ms (suc k) n
 
   -- the graph with these counts, as much of it as there is room for
-  unfoldable pub graph-told : List ℕ → List ℕ → Counts → Graph
+  unfoldable pub graph-told : List ℕ → List ℕ → GraphCounts → Graph
   graph-told ms g n = record {
     labels = labels-told ms 0 (min (n .nodes) reference-room);
     arcs = pairs 0 g 0 (min (n .arcs) arc-room);

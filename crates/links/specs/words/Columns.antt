@@ -9,7 +9,7 @@ use Rattle.columns.specs.words.Columns.{look}
 use Rattle.control.specs.words.Words.{reference-room}
 use Rattle.rules.specs.Track.{Pair}
 use Rattle.graphs.specs.Graph.{Graph}
-use Rattle.links.specs.declared.Counts.{Counts}
+use Rattle.links.specs.declared.GraphCounts.{GraphCounts}
 
 -- word i of n put
 unfoldable pub put : ℕ → List ℕ → ℕ → ℕ → List ℕ
@@ -25,5 +25,5 @@ flat [] = []
 flat (a ∷ as′) = a .from ∷ a .to ∷ flat as′
 
 -- how many nodes, arcs and meetings a graph has
-abbrev pub counts-of : Graph → Counts
+abbrev pub counts-of : Graph → GraphCounts
 counts-of g = record { nodes = length (g .labels); arcs = length (g .arcs); meetings = length (g .meetings) }

@@ -1,11 +1,12 @@
 -- `listing::put_track` meets its contract: the array that the track is saved into has its room, so by the answer
 -- the text stands in front of it and is copied, or refusal 12 is told. Assumes nothing.
-use Prim.Native.Nat.{ℕ}
 use borrow.Author.Needs.{needs}
-use lib.ListN.{length-replicate}
 use Rattle.listing.proofs.Lines.{track-short, track-fits, track-whole}
 use Rattle.listing.proofs.put_track.Statement.{statement}
 use Rattle.listing.proofs.put_track.Tie as tie
+
+save-room-requires : tie.Need-save-room-requires
+save-room-requires c κs = search needs
 
 slice-aggregate-save : tie.Need-slice-aggregate-save
 slice-aggregate-save c = search needs
@@ -29,9 +30,10 @@ put-copy-requires : tie.Need-put-copy-requires
 put-copy-requires c κs =
     let told = c .before .before .before in
     let saving = told .before .before .before in
-    let entry = saving .before .before .before .before .before .before .before .before .before .before in
+    let room = saving .before .before .before .before .before .before .before .before .before in
+    let entry = room .before .before in
     let fits =
-    track-fits _ _ (saving .save .ensures .1 .0) (saving .save .ensures .0) (length-replicate {A = ℕ} 65536 0)
+    track-fits _ _ (saving .save .ensures .1 .0) (saving .save .ensures .0) (room .save-room .ensures)
     (told .saved .given .1) in
     (fits .0, entry .pre, fits .1)
 
@@ -43,7 +45,8 @@ returns c =
     let refusal = c .before .before in
     let told = refusal .before .before in
     let saving = told .before .before .before in
-    track-short _ _ (saving .save .ensures .0) (length-replicate {A = ℕ} 65536 0) (told .enum-told .given .1)
+    let room = saving .before .before .before .before .before .before .before .before .before in
+    track-short _ _ (saving .save .ensures .0) (room .save-room .ensures) (told .enum-told .given .1)
     (refusal .put-refusal .ensures)
 
 same-length-2 : tie.Need-same-length-2
@@ -54,13 +57,15 @@ returns-2 c =
     let copied = c .before .before in
     let told = copied .before .before .before .before in
     let saving = told .before .before .before in
-    track-whole _ _ (saving .save .ensures .1 .0) (saving .save .ensures .0) (length-replicate {A = ℕ} 65536 0)
+    let room = saving .before .before .before .before .before .before .before .before .before in
+    track-whole _ _ (saving .save .ensures .1 .0) (saving .save .ensures .0) (room .save-room .ensures)
     (told .saved .given .1) (copied .put-copy .ensures)
 
 pub put-track-spec : {M : Type 1} → statement M
 put-track-spec =
     tie.close
     (tie.spec
+    save-room-requires
     slice-aggregate-save
     save-requires
     enum-told

@@ -9,6 +9,7 @@ use Rattle.kinds.specs.Kind as Kind
 use Rattle.frames.specs.TableFrame.{term-room}
 use Rattle.control.specs.words.Words.{track-word}
 use Rattle.control.specs.words.Control as Control
+use Rattle.columns.specs.words.Columns.{look}
 
 -- the digit at a place of an address, 0 behind its last
 unfoldable pub digit-at : List ℕ → ℕ → ℕ → ℕ
@@ -29,8 +30,9 @@ taken d a b = choose (eqb d 2) b a
 unfoldable pub is-within : Bool → ℕ → Bool
 is-within nested o = nested || not (eqb o 0)
 
-unfoldable pub set-of : List ℕ → ℕ → ℕ
-set-of x t = choose (ltb t term-room) (getD x t 0) 0
+-- a term's set
+abbrev pub set-of : List ℕ → ℕ → ℕ
+set-of x t = look term-room x t
 
 abbrev pub beyond : List ℕ → ℕ → ℕ → ℕ → ℕ
 beyond = Control.beyond

@@ -16,7 +16,7 @@ use Rattle.offers.proofs.first_of.Reads as first-of-reads
 use Rattle.offers.proofs.followed.Reads as followed-reads
 use Rattle.offers.proofs.inside.Reads as inside-reads
 use Rattle.offers.proofs.offers_of_term.Reads as offers-of-term-reads
-use Rattle.offers.proofs.set_of.Reads as set-of-reads
+use Rattle.columns.proofs.set_of.Reads as set-of-reads
 use Rattle.offers.proofs.settled.Reads as settled-reads
 use Rattle.offers.proofs.unseen.Reads as unseen-reads
 use Rattle.plans.proofs.kind_of.Reads as kind-of-reads

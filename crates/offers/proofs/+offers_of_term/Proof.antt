@@ -11,7 +11,7 @@ use Rattle.offers.proofs.+offers_of_term.Lts-offers_of_term as offers-o
 use Rattle.offers.proofs.combined.Reads as combined-reads
 use Rattle.offers.proofs.first_of.Reads as first-of-reads
 use Rattle.offers.proofs.own.Reads as own-reads
-use Rattle.offers.proofs.set_of.Reads as set-of-reads
+use Rattle.columns.proofs.set_of.Reads as set-of-reads
 use Rattle.offers.proofs.settled.Reads as settled-reads
 use Rattle.offers.proofs.unseen.Reads as unseen-reads
 use Rattle.plans.proofs.kind_of.Reads as kind-of-reads

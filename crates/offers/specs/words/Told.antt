@@ -11,7 +11,7 @@ use Rattle.rules.specs.Process.{Process, main, cells}
 use Rattle.rules.specs.Run.{cell-room}
 use Rattle.rules.specs.Offers.{offers-τ, offers-✓, offers-event}
 use Rattle.plans.specs.words.Plan.{Layout}
-use Rattle.control.specs.words.Control.{Holds}
+use Rattle.control.specs.words.Control.{HoldsControl}
 use Rattle.offers.specs.declared.Offered.{Offered}
 use Rattle.offers.specs.code.Offering.{Offer}
 
@@ -27,10 +27,10 @@ Low l = (i : ℕ) → length (l .place i .path) ≤ path-room
 -- no more cells than there is room for
 pub data Controls (l : Layout) (p x w : List ℕ) (n : ℕ) (P : Process) : Type 0 where
   starts : n ≡ 0 → P ≡ main → Controls l p x w n P
-  stands : Holds l p x w n 0 P [] → cells P ≤ cell-room → Controls l p x w n P
+  stands : HoldsControl l p x w n 0 P [] → cells P ≤ cell-room → Controls l p x w n P
 
 -- an answer that tells what a control offers
-pub record Tells (r : Offered) (P : Process) : Type 0 where
+pub record TellsOffers (r : Offered) (P : Process) : Type 0 where
   pub tau-is : r .tau ≡ offers-τ P
   pub tick-is : r .tick ≡ offers-✓ P
   pub events-are : (k : ℕ) → member k (r .events) ≡ offers-event k P

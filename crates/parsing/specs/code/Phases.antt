@@ -10,8 +10,8 @@ use Rattle.rules.specs.Track.{Label, Pair}
 use Rattle.graphs.specs.Parsed.{Frame, opening, node, arc, meeting, last, wrong, pair-at, formed, frame-of}
 use Rattle.graphs.specs.Parsed.{a-node, the-last, ends-below, unless, refusal, first-refusal, verdict}
 use Rattle.finding.specs.words.Node.{label-at}
-use Rattle.parsing.specs.declared.Opened.{Opened}
-use Rattle.parsing.specs.declared.Opened.the-variants.{Track, Fails}
+use Rattle.parsing.specs.declared.TrackOpened.{TrackOpened}
+use Rattle.parsing.specs.declared.TrackOpened.the-variants.{Track, Fails}
 use Rattle.parsing.specs.declared.Lines.{Lines}
 use Rattle.parsing.specs.declared.Lines.the-variants.{Goes, Stops}
 
@@ -28,7 +28,7 @@ module _ {A : Type 0} (stops : ℕ → A) (meets : List ℕ → ℕ) (leads : Li
   line-read at (l ∷ ls) = by-frame (at + length (characters l) + 1) ls (frame l)
 
 -- line 1 by its frame, where the next line begins at `next`: the counts of a track
-unfoldable pub counts : ℕ → Frame → Opened
+unfoldable pub counts : ℕ → Frame → TrackOpened
 counts next (opening e n a s) = Track n a s next
 counts next (node i w) = Fails 2
 counts next (arc a) = Fails 2
@@ -37,7 +37,7 @@ counts next last = Fails 2
 counts next wrong = Fails 2
 
 -- line 1: the counts of a track, or the number that it meets
-unfoldable pub opened : List Raw → Opened
+unfoldable pub opened : List Raw → TrackOpened
 opened = line-read Fails (λ bs. first-refusal (frame-of bs)) (λ bs next ls. counts next (frame-of bs)) 0
 
 -- lines of one kind: the answer, and what they have said as far as they were read

@@ -70,7 +70,7 @@ Planned l w x i o (binary p t u) =
     × Planned l w x (suc i) (first-around p i o) t × Planned l w x (second w i) (second-around p o) u
 
 -- a plan and sets that hold the definitions of a table
-abbrev pub Holds : Layout → List ℕ → List ℕ → List Term → Type 0
-Holds l w x ts =
+abbrev pub HoldsTable : Layout → List ℕ → List ℕ → List Term → Type 0
+HoldsTable l w x ts =
     (n : ℕ) (t : Term) → getElem? ts n ≡ some t
     → (l .place (l .root n) ≡ record { definition = n; path = [] }) × Planned l w x (l .root n) 0 t

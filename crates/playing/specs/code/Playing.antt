@@ -4,8 +4,8 @@ use mathlib.Core.List.{List}
 use lib.Seq.{sets}
 use Rattle.lines.specs.Line.{Raw}
 use Rattle.scripts.specs.Script as Script
-use Rattle.scripts.specs.declared.Step.{Step}
-use Rattle.scripts.specs.declared.Step.the-variants as Line
+use Rattle.scripts.specs.declared.ScriptStep.{ScriptStep}
+use Rattle.scripts.specs.declared.ScriptStep.the-variants as Line
 use Rattle.runs.specs.declared.Answer.{Answer}
 use Rattle.runs.specs.declared.Answer.the-variants.{Accepted, Refused}
 use Rattle.playing.specs.declared.Played.{Played}
@@ -23,7 +23,7 @@ unfoldable pub of-answer : ℕ → Answer → Played
 of-answer next (Accepted s) = Plays.Stepped (s .event) next
 of-answer next (Refused n) = Plays.Refused n
 
-unfoldable pub without-step : Step → Played
+unfoldable pub without-step : ScriptStep → Played
 without-step (Line.Address n next) = Plays.End
 without-step (Line.Refused n) = Plays.Refused n
 without-step Line.End = Plays.End
@@ -41,7 +41,7 @@ module _ (p x w g c : List ℕ) where
   }
 
   -- by what the line asks for, with its digits in the lent array
-  unfoldable pub by-line : Step → List ℕ → Line-played
+  unfoldable pub by-line : ScriptStep → List ℕ → Line-played
   by-line (Line.Address n next) ds = step-played next (stepped p x n ds w g c)
   by-line (Line.Refused n) ds = unplayed (Plays.Refused n)
   by-line Line.End ds = unplayed Plays.End

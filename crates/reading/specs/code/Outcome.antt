@@ -12,8 +12,8 @@ use Rattle.graphs.specs.Parsed.{Parsed, says, refused, parsed}
 use Rattle.links.specs.words.Columns.{flat, counts-of}
 use Rattle.walks.specs.code.Walked.{laid}
 use Rattle.finding.specs.code.Found.{marks-of}
-use Rattle.parsing.specs.declared.Opened.{Opened}
-use Rattle.parsing.specs.declared.Opened.the-variants.{Track, Fails}
+use Rattle.parsing.specs.declared.TrackOpened.{TrackOpened}
+use Rattle.parsing.specs.declared.TrackOpened.the-variants.{Track, Fails}
 use Rattle.parsing.specs.declared.Lines.{Lines}
 use Rattle.parsing.specs.declared.Lines.the-variants.{Goes, Stops}
 use Rattle.shapes.specs.code.Rules.{shaped}
@@ -56,7 +56,7 @@ answer (says g) = Accepted (counts-of g)
 answer (refused n k) = Refused n k
 
 -- the answer for line 1 that fails, and for a later line that stops the work
-unfoldable pub failed : Opened → Read
+unfoldable pub failed : TrackOpened → Read
 failed (Track n a s next) = Refused 0 1
 failed (Fails k) = Refused k 1
 

@@ -10,8 +10,8 @@ use Rattle.frames.specs.declared.Frame.{Frame}
 use Rattle.frames.specs.declared.Frame.the-variants.{Opening, Definition, Term, Closing, Wrong}
 use Rattle.refusals.specs.declared.Said.{Said}
 use Rattle.refusals.specs.declared.Said.the-variants.{Goes, Stops}
-use Rattle.refusals.specs.declared.Opened.{Opened}
-use Rattle.refusals.specs.declared.Opened.the-variants.{Table, Fails}
+use Rattle.refusals.specs.declared.TableOpened.{TableOpened}
+use Rattle.refusals.specs.declared.TableOpened.the-variants.{Table, Fails}
 
 -- what a line says, where its text stands from `at` on: its frame and where the next line begins, or the
 -- number that it meets
@@ -25,19 +25,19 @@ said r at [] = Stops 2
 said r at (l ∷ ls) = heard r (at + length (characters l) + 1) (frame l)
 
 -- line 1 by its frame, where the next line begins at `next`: what it opens, or the number that it meets
-unfoldable pub opens : ℕ → Frame → Opened
+unfoldable pub opens : ℕ → Frame → TableOpened
 opens next Wrong = Fails 2
 opens next (Opening ed dd ee) = choose (eqb (first-refusal (Opening ed dd ee)) 0) (Table dd ee next) (Fails 3)
 opens next (Definition n) = Fails 2
 opens next (Term k p) = Fails 2
 opens next (Closing t) = Fails 2
 
-unfoldable pub opened-by : ℕ → Option (List ℕ) → Opened
+unfoldable pub opened-by : ℕ → Option (List ℕ) → TableOpened
 opened-by next none = Fails 1
 opened-by next (some bs) = opens next (frame-of bs)
 
 -- line 1 of a text
-unfoldable pub opened : List Raw → Opened
+unfoldable pub opened : List Raw → TableOpened
 opened [] = Fails 2
 opened (l ∷ ls) = opened-by (length (characters l) + 1) (frame l)
 
@@ -46,6 +46,6 @@ unfoldable pub stop : Said → ℕ
 stop (Goes f n) = 0
 stop (Stops r) = r
 
-unfoldable pub failure : Opened → ℕ
+unfoldable pub failure : TableOpened → ℕ
 failure (Table d e n) = 0
 failure (Fails r) = r

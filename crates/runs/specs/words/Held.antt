@@ -28,7 +28,7 @@ use Rattle.rules.specs.Addressed.{digit-of, with-digit, answered}
 -- a table whose definitions a plan and its sets hold: definition 00 begins it, every definition that it calls is there, and
 -- the sequences around its terms are terms
 pub record Table (l : Layout) (p x : List ℕ) (ts : List Term) : Type 0 where
-  pub held : Plan.Holds l p x ts
+  pub held : Plan.HoldsTable l p x ts
   pub low : Low l
   pub first : l .root 0 ≡ 0
   pub some-first : getElem? ts 0 ≡ none → ⊥

@@ -8,7 +8,7 @@ use Rattle.control.specs.words.Control.{label}
 use Rattle.counting.specs.code.Counting.{fresh, arcs, meetings}
 use Rattle.graphs.specs.Saved.{graph-text}
 use Rattle.walks.specs.code.Walked.{laid}
-use Rattle.links.specs.declared.Counts.{Counts}
+use Rattle.links.specs.declared.GraphCounts.{GraphCounts}
 use Rattle.numbering.specs.code.Numbered.{order-by, arcs-by, meetings-by, labels-out, track-out}
 use Rattle.framing.specs.words.Told.{graph-told}
 
@@ -29,7 +29,7 @@ module _ (ks xs w g c : List ℕ) where
   abbrev pub graph-saved : List ℕ
   graph-saved = track-out marks ks xs g (arcs c) (meetings c)
 
-  abbrev pub counts : Counts
+  abbrev pub counts : GraphCounts
   counts = record {
     nodes = length (order-by marks ks xs g (arcs c) (meetings c));
     arcs = length (arcs-by marks ks xs g (arcs c) (meetings c));

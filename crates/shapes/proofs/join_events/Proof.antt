@@ -6,7 +6,8 @@ use borrow.Author.Needs.{needs}
 use native.Mathlib.Omega.{arith}
 use Rattle.control.specs.words.Views.{pairs}
 use Rattle.shapes.proofs.RuleTests.{told-broken, told-met, pairs-listed, Passed, none-tested}
-use Rattle.shapes.proofs.RuleTests.{test-passed, test-failed, all-passed, every-both, meets-well, meeting-told}
+use Rattle.shapes.proofs.RuleTests.{test-passed, test-failed, all-passed, every-both, meets-well}
+use Rattle.shapes.proofs.RuleTests.{meeting-told}
 use Rattle.shapes.proofs.join_events.Statement.{statement}
 use Rattle.shapes.proofs.join_events.Tie as tie
 

@@ -9,13 +9,13 @@ use Rattle.terms.specs.Term.{operator-payload}
 
 -- columns that hold a term at number i: its kind and payload, its subterms, and the
 -- number of the term behind it
-abbrev pub Holds : List ℕ → List ℕ → List ℕ → ℕ → Term → Type 0
-Holds ks ps xs i (leaf l) =
+abbrev pub HoldsTerm : List ℕ → List ℕ → List ℕ → ℕ → Term → Type 0
+HoldsTerm ks ps xs i (leaf l) =
     (getD ks i 0 ≡ leaf-kind l) × (getD ps i 0 ≡ leaf-payload l) × (getD xs i 0 ≡ suc i)
-Holds ks ps xs i (prefix e t) =
+HoldsTerm ks ps xs i (prefix e t) =
     (getD ks i 0 ≡ Kind.prefix) × (getD ps i 0 ≡ e) × (getD xs i 0 ≡ getD xs (suc i) 0)
-    × Holds ks ps xs (suc i) t
-Holds ks ps xs i (binary o t u) =
+    × HoldsTerm ks ps xs (suc i) t
+HoldsTerm ks ps xs i (binary o t u) =
     (getD ks i 0 ≡ operator-kind o) × (getD ps i 0 ≡ operator-payload o)
     × (getD xs i 0 ≡ getD xs (getD xs (suc i) 0) 0)
-    × Holds ks ps xs (suc i) t × Holds ks ps xs (getD xs (suc i) 0) u
+    × HoldsTerm ks ps xs (suc i) t × HoldsTerm ks ps xs (getD xs (suc i) 0) u

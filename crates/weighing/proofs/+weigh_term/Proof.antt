@@ -17,7 +17,7 @@ use Rattle.looking.proofs.digit_at.Reads as digit-at-reads
 use Rattle.looking.proofs.is_side.Reads as is-side-reads
 use Rattle.looking.proofs.is_split.Reads as is-split-reads
 use Rattle.looking.proofs.is_within.Reads as is-within-reads
-use Rattle.looking.proofs.set_of.Reads as set-of-reads
+use Rattle.columns.proofs.set_of.Reads as set-of-reads
 use Rattle.looking.proofs.taken.Reads as taken-reads
 use Rattle.weights.proofs.both.Reads as both-reads
 use Rattle.weights.proofs.by_leaf.Reads as by-leaf-reads

@@ -9,3 +9,17 @@ use lib.Seq.{sets}
 pub record Puts (at : ℕ) (xs before after : List ℕ) (end : ℕ) : Type 0 where
   pub ends : end ≡ at + length xs
   pub stands : after ≡ sets before at xs
+
+-- how far a cursor may have come before a byte, a number, a line, and lines of pairs, so that no sum of it is too large: a text of
+-- a track is far shorter
+abbrev pub byte-cursor : ℕ
+byte-cursor = 3000000
+
+abbrev pub number-cursor : ℕ
+number-cursor = 2500000
+
+abbrev pub line-cursor : ℕ
+line-cursor = 2000000
+
+abbrev pub pairs-cursor : ℕ
+pairs-cursor = 1500000

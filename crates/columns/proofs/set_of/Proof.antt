@@ -1,8 +1,8 @@
--- `offers::set_of` meets its contract, in range and out of it. Assumes nothing.
+-- `columns::set_of` meets its contract, in range and out of it. Assumes nothing.
 use Rattle.columns.proofs.Laws.{look-in, look-out}
 use borrow.Author.Needs.{needs}
-use Rattle.offers.proofs.set_of.Statement.{statement}
-use Rattle.offers.proofs.set_of.Tie as tie
+use Rattle.columns.proofs.set_of.Statement.{statement}
+use Rattle.columns.proofs.set_of.Tie as tie
 
 mul-result : tie.Need-mul-result
 mul-result c = search needs
