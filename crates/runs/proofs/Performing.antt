@@ -1,5 +1,5 @@
 -- The step that the words of a run perform is the report's step from the state that they tell. At the start it is the call
--- of definition 00. Else it is what stepping's pass makes of the control at the current reference, by taking's `takes`;
+-- of definition 00. Else it is what stepping's pass makes of the control at the current reference, by `takes` of step_laws;
 -- every run keeps that control ready for it: each reference is drawn and held once, its arcs
 -- climb, the table has what it calls, and what the step comes to has room. Assumes nothing.
 use Prim.Native.Nat.{ℕ, _≤_, _<_}

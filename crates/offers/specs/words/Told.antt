@@ -1,5 +1,5 @@
 -- What the answers are of a control that the words of a run hold: its offers and its status, by document 01's
--- account in report's `Offers`.
+-- account in `Offers` of rules.
 use Prim.Native.Nat.{ℕ, _≤_, _<_}
 use mathlib.Core.Path.{_≡_}
 use mathlib.Core.Bool.{true}

@@ -1,6 +1,6 @@
 -- What it is for lent words to hold a run: the state that accepted steps reach is told by them. `start` makes it so, and
 -- every step keeps it, accepted or refused. And what the doors' answers are of such a run, by document 01's account in
--- report's `Run`.
+-- `Run` of rules.
 use Prim.Native.Nat.{ℕ, zero, suc, _≤_, _<_}
 use mathlib.Core.Path.{_≡_}
 use mathlib.Core.List.{List, []}
