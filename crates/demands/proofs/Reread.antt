@@ -16,6 +16,7 @@ use Rattle.tables.specs.Table.{Sofar, accepted, judged}
 use Rattle.tables.specs.words.Columns.{kinds, owners, afters, roots, Table-of}
 use Rattle.terms.specs.Term.{Term, definitions-of}
 use Rattle.columns.specs.words.Columns.{Columns, columns, all-columns, read-columns}
+use Rattle.marks.specs.words.Mark.{literal}
 use Rattle.rules.specs.Track.{Label, lookup}
 use Rattle.rules.specs.Run.{State, arc-room, meeting-room}
 use Rattle.control.specs.words.Words.{reference-room, track-words}
@@ -36,7 +37,7 @@ use Rattle.walks.proofs.Telling.{Telling, mark-told, labelled-told}
 use Rattle.links.proofs.Listed.{arcs-back, meetings-back}
 use Rattle.framing.specs.words.Told.{place-by, labels-told, graph-told}
 use Rattle.writing.specs.declared.Saved.{Saved}
-use Rattle.saving.proofs.NumberedTold.{mark-place}
+use Rattle.saving.proofs.NumberedTold.{literal-placed}
 use Rattle.finding.specs.code.Found.{marks-of}
 use Rattle.reading.specs.code.Outcome.{answer, labels-left, graph-left}
 use Rattle.reading.specs.words.Kept.{Reads}
@@ -108,7 +109,7 @@ module _ (text : List ℕ) (t : Sofar) (q : judged text ≡ accepted t) (lines :
       go : (b : Bool) → eqb (at marks i) 0 ≡ b → not b ≡ true
           → lookup i (g .labels) ≡ some (place-by (places t) (at marks i))
       go true e h = let z : _≡_ {A = ℕ} 0 1 = cc in absurd (omega arith)
-      go false e h = telling .told i ∙ rw e (ap some (mark-place t (at marks i) (eqb-false (at marks i) 0 e)))
+      go false e h = telling .told i ∙ rw e (ap some (literal-placed t (literal (at marks i))))
 
   -- the walk numbers its nodes as they are
   order-is : order g ≡ from-on 0 (length (g .labels))

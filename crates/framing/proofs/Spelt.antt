@@ -25,7 +25,8 @@ use Rattle.control.specs.words.Views.{pairs}
 use Rattle.graphs.specs.Saved.{node-frame, pair-frame}
 use Rattle.graphs.proofs.Spelled.{hex-length, line-length, pairs-length}
 use Rattle.links.specs.words.Columns.{at}
-use Rattle.framing.specs.words.Told.{literal, labels-told}
+use Rattle.marks.specs.words.Mark.{literal}
+use Rattle.framing.specs.words.Told.{labels-told}
 use Rattle.framing.specs.code.Placed.{told-length, told-definition}
 
 -- a line of a pair

@@ -13,7 +13,7 @@ use graphs::TRACK_END_FRAME;
 use graphs::TRACK_FRAME;
 use links::Column;
 use links::reference_word;
-use places::Literal;
+use marks::literal_of;
 use places::Path;
 use places::Placed;
 use places::place;
@@ -30,7 +30,7 @@ ghost use Rattle.rules.specs.Track.{pair};
 ghost use Rattle.graphs.specs.Saved.{pair-frame, node-frame};
 ghost use lib.ListN.{length, take};
 ghost use Rattle.columns.specs.words.Columns.{columns};
-ghost use Rattle.framing.specs.words.Told.{literal, labels-told};
+ghost use Rattle.framing.specs.words.Told.{labels-told};
 ghost use Rattle.framing.specs.code.Placed.{told-length, told-definition};
 
 // `30 01 nnnn aaaa ssss`, at the front.
@@ -199,19 +199,6 @@ fn put_path(path: &Path, count: usize, from: usize, out: &mut [u8]) -> usize
         i += 1;
     }
     at
-}
-
-// The literal that a mark is of.
-fn literal_of(mark: usize) -> Literal
-    ensures { λ r. ⌜ r ≡ literal mark ⌝ }
-{
-    if mark <= 1 {
-        return Literal::Left(0);
-    }
-    if mark % 2 == 0 {
-        return Literal::Own((mark - 2) / 2);
-    }
-    Literal::Event((mark - 3) / 2)
 }
 
 // How many digits a place's path has.

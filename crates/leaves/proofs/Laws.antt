@@ -8,6 +8,7 @@ use native.Mathlib.Omega.{arith}
 use borrow.Author.Tests.{eq-eqb, ne-eqb}
 use Rattle.kinds.specs.Kind as Kind
 use Rattle.plans.specs.words.Plan.{kind, operand, second, around}
+use Rattle.marks.specs.words.Mark.{own-mark, event-mark, start-mark}
 use Rattle.control.specs.words.Words.{node}
 use Rattle.control.specs.words.Control.{term, frame, resting, at-end, dead, beyond}
 use Rattle.rules.specs.declared.Event.{Event}
@@ -17,7 +18,7 @@ use Rattle.looking.specs.code.Looking.{taken}
 use Rattle.weights.proofs.RuleLaws.{Tagged}
 use Rattle.drawing.specs.code.Drawing.{one-node, one-arc, one-met, drawn, labelled, standing, with-arc}
 use Rattle.drawing.specs.code.Drawing.{with-met, joined}
-use Rattle.leaves.specs.code.Leaves.{Done, with-words, come, own-mark, event-mark, on, started, ends}
+use Rattle.leaves.specs.code.Leaves.{Done, with-words, come, on, started, ends}
 use Rattle.leaves.specs.code.Leaves.{by-event, settled, prefix, single, after-settling, leaf, end}
 use Rattle.leaves.specs.code.Leaves.{called}
 use Rattle.drawing.specs.declared.Tally.{Tally}
@@ -26,16 +27,6 @@ use Rattle.leaves.specs.declared.Taken.{Taken}
 -- a step comes to d, with words w and g after it
 abbrev pub Comes : Taken → List ℕ → List ℕ → Done → Type 0
 Comes d w g e = (d ≡ e .taken) × ((w ≡ e .nodes) × (g ≡ e .track))
-
--- marks
-module _ (t a m : ℕ) (a-is : a ≡ capped (t + t)) where
-  pub own-mark-made : m ≡ capped (a + 2) → m ≡ own-mark t
-  unfolding own-mark
-  own-mark-made h = rw (h, a-is)
-
-  pub event-mark-made : m ≡ capped (a + 3) → m ≡ event-mark t
-  unfolding event-mark
-  event-mark-made h = rw (h, a-is)
 
 -- a reference is labelled, and gets an arc to a fresh one
 module _ (n mark : ℕ) (k l j : Tally) (w v g h : List ℕ) (counts : (l ≡ one-node k) × (v ≡ labelled n mark w))
@@ -57,7 +48,7 @@ module _ (n mark : ℕ) (k l j : Tally) (w v g h : List ℕ) (counts : (l ≡ on
       (rw (y-is, tally-on), (rw (x-is, counts .1, mark-is), arc-on))
 
   -- the start's call
-  pub called-made : n ≡ 0 → mark ≡ 1 → (x : List ℕ) (y : Taken)
+  pub called-made : n ≡ 0 → mark ≡ start-mark → (x : List ℕ) (y : Taken)
       → x ≡ standing (k .fresh) resting 0 0 v → y ≡ come Tau (k .fresh) 1 0 j → Comes y x h (called k w g)
   unfolding called
   called-made n-is mark-is x y x-is y-is =

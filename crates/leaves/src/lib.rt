@@ -20,6 +20,9 @@ use drawing::past_fresh;
 use drawing::stand;
 use looking::beyond;
 use looking::taken;
+use marks::START_MARK;
+use marks::event_mark;
+use marks::own_mark;
 use plans::CALL_WORD;
 use plans::PREFIX_WORD;
 use plans::Plan;
@@ -43,9 +46,6 @@ pub struct Taken {
     pub tally: Tally,
 }
 
-// The mark of the left-hand side of definition 00.
-const LEFT_MARK: usize = 1;
-
 // The start's call, at reference 0: its node is labelled with the left-hand side of definition 00, whose root is term 0.
 pub fn call_start(tally: Tally, nodes: &mut Nodes, track: &mut Track) -> Taken
     ensures { λ r. ⌜ r ≡ spec.called tally (now (nodes .entry)) (now (track .entry)) .taken ⌝ }
@@ -53,7 +53,7 @@ pub fn call_start(tally: Tally, nodes: &mut Nodes, track: &mut Track) -> Taken
     ensures { λ _. ⌜ now (track .exit) ≡ spec.called tally (now (nodes .entry)) (now (track .entry)) .track ⌝ }
 {
     let next = tally.fresh;
-    let drawn = draw(0, label(0, LEFT_MARK, tally, nodes), track);
+    let drawn = draw(0, label(0, START_MARK, tally, nodes), track);
     stand(next, UNTOUCHED, 0, 0, nodes);
     come(Event::Tau, next, 1, 0, drawn)
 }
@@ -216,17 +216,4 @@ pub fn come(event: Event, reference: usize, size: usize, at: usize, tally: Tally
         at,
         tally,
     }
-}
-
-// The mark of a term's own literal, and of a prefix's event.
-pub fn own_mark(t: usize) -> usize
-    ensures { λ r. ⌜ r ≡ spec.own-mark t ⌝ }
-{
-    sum(sum(t, t), 2)
-}
-
-fn event_mark(t: usize) -> usize
-    ensures { λ r. ⌜ r ≡ spec.event-mark t ⌝ }
-{
-    sum(sum(t, t), 3)
 }

@@ -14,27 +14,24 @@ use Rattle.lines.specs.Line.{choose}
 use Rattle.kinds.specs.Kind.{external, parallel}
 use Rattle.frames.specs.TableFrame.{term-room}
 use Rattle.columns.specs.words.Columns.{look}
+use Rattle.marks.specs.words.Mark.{term-of, is-own}
 use Rattle.control.specs.words.Words.{track-word}
 use Rattle.rules.specs.Track.{Pair, pair}
 use Rattle.control.specs.words.Views.{pairs}
 use Rattle.links.specs.words.Columns.{put, at}
-use Rattle.links.specs.code.Linked.{side-words, term-of, splits, side-of, slot, bare, free, with-arc}
+use Rattle.links.specs.code.Linked.{side-words, splits, side-of, slot, bare, free, with-arc}
 use Rattle.links.specs.code.Linked.{linked, all-fit}
 
 -- whether a mark has sides
 module _ (ks : List ℕ) (m : ℕ) where
-  pub splits-low : m < 2 → false ≡ splits ks m
+  pub splits-none : (b : Bool) → b ≡ is-own m → not b ≡ true → false ≡ splits ks m
   unfolding splits
-  splits-low h = simp (lt-leb 2 m h)
+  splits-none b e h = rw (← e, not-true b h)
 
-  pub splits-odd : 2 ≤ m → (m % 2 ≡ 0 → ⊥) → false ≡ splits ks m
-  unfolding splits
-  splits-odd h odd = simp (le-leb 2 m h, ne-eqb (m % 2) 0 odd)
-
-  pub splits-kind : 2 ≤ m → m % 2 ≡ 0 → (t k : ℕ) → t ≡ term-of m → k ≡ look term-room ks t
+  pub splits-kind : (b : Bool) → b ≡ is-own m → not b ≡ false → (t k : ℕ) → t ≡ term-of m → k ≡ look term-room ks t
       → (eqb k external || eqb k parallel) ≡ splits ks m
   unfolding splits
-  splits-kind h even t k e f = rw (f, e) (simp (le-leb 2 m h, eq-eqb (m % 2) 0 even))
+  splits-kind b e h t k f g = rw (← e, not-false b h, g, f)
 
 -- the side that a term stands in
 module _ (xs : List ℕ) (t u : ℕ) where

@@ -10,6 +10,8 @@ use control::Track;
 use control::track_word;
 use kinds::EXTERNAL;
 use kinds::PARALLEL;
+use marks::is_own;
+use marks::term_of;
 use rules::ARC_ROOM;
 ghost use mathlib.Core.Path.{_≡_};
 ghost use Prim.Native.Nat.{min};
@@ -148,10 +150,7 @@ fn slot_of(mark: usize, other: usize, kinds: &Kinds, after: &After) -> usize
 fn splits(mark: usize, kinds: &Kinds) -> bool
     ensures { λ r. ⌜ r ≡ of.splits (now (kinds .entry)) mark ⌝ }
 {
-    if mark < 2 {
-        return false;
-    }
-    if mark % 2 != 0 {
+    if !is_own(mark) {
         return false;
     }
     let kind = kind_of(term_of(mark), kinds);
@@ -175,11 +174,4 @@ fn side_of(term: usize, other: usize, after: &After) -> usize
         return 2;
     }
     0
-}
-
-// The number of the term that a mark is of.
-fn term_of(mark: usize) -> usize
-    ensures { λ r. ⌜ r ≡ of.term-of mark ⌝ }
-{
-    if mark < 2 { 0 } else { (mark - 2) / 2 }
 }

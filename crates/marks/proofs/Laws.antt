@@ -5,7 +5,7 @@ use mathlib.Core.Path.{_≡_, refl}
 use mathlib.Core.Bool.{Bool, true, false}
 use native.Mathlib.Omega.{arith}
 use lib.Dec.{ltb, eqb}
-use borrow.Author.Tests.{lt-ltb, le-ltb, le-leb, eq-eqb, ne-eqb, ltb-true, ltb-false, eqb-true, eqb-false}
+use borrow.Author.Tests.{lt-ltb, le-ltb, le-leb, lt-leb, eq-eqb, ne-eqb, ltb-true, ltb-false, eqb-true, eqb-false}
 use Rattle.lines.specs.Line.{choose}
 use Rattle.places.specs.declared.Literal.{Literal}
 use Rattle.places.specs.declared.Literal.the-variants.{Left, Own, Event}
@@ -39,6 +39,16 @@ module _ (t : ℕ) (h : t < 1024) where
   unfolding event-mark
   event-is = omega arith
 
+-- what the start's mark is read as, and 0
+module _ (m : ℕ) (h : m < 2) where
+  pub low-read : literal m ≡ Left 0
+  unfolding literal
+  low-read = simp (lt-ltb m 2 h)
+
+  pub low-tested : (is-own m ≡ false) × (is-event m ≡ false)
+  unfolding is-own is-event
+  low-tested = simp (lt-leb 2 m h) (refl, refl)
+
 -- what a mark of term t is read as: k is 0 for its own literal's, and 1 for its event's
 module _ (m t : ℕ) where
   pub term-is : (k : ℕ) → k ≤ 1 → m ≡ 2 + 2 * t + k → term-of m ≡ t
@@ -65,28 +75,28 @@ module _ (m t : ℕ) where
   event-tested e =
       simp (le-leb 2 m (omega arith), ne-eqb (m % 2) 0 (λ q. omega arith), eq-eqb (m % 2) 1 (omega arith)) (refl, refl)
 
--- which mark a number is, and what it is read as
+-- which mark a number is
 pub data Read (m : ℕ) : Type 0 where
-  none : m ≡ 0 → Read m
-  start : m ≡ 1 → Read m
-  own : (t : ℕ) → m ≡ 2 + 2 * t → Read m
-  event : (t : ℕ) → m ≡ 3 + 2 * t → Read m
+  unmarked : m ≡ 0 → Read m
+  at-start : m ≡ 1 → Read m
+  at-own : (t : ℕ) → m ≡ 2 + 2 * t → Read m
+  at-event : (t : ℕ) → m ≡ 3 + 2 * t → Read m
 
 pub read : (m : ℕ) → Read m
 unfolding term-of
 read m = go (ltb m 2) (eqb (m % 2) 0) refl refl
   where
     low : (b : Bool) → eqb m 0 ≡ b → m < 2 → Read m
-    low true e h = none (eqb-true m 0 e)
-    low false e h = let q = eqb-false m 0 e in start (omega arith)
+    low true e h = unmarked (eqb-true m 0 e)
+    low false e h = let q = eqb-false m 0 e in at-start (omega arith)
 
     go : (a b : Bool) → ltb m 2 ≡ a → eqb (m % 2) 0 ≡ b → Read m
     go true b e f = low (eqb m 0) refl (ltb-true m 2 e)
     go false true e f =
         let h = ltb-false m 2 e in
         let even = eqb-true (m % 2) 0 f in
-        own (term-of m) (omega arith)
+        at-own (term-of m) (omega arith)
     go false false e f =
         let h = ltb-false m 2 e in
         let odd = eqb-false (m % 2) 0 f in
-        event (term-of m) (omega arith)
+        at-event (term-of m) (omega arith)

@@ -14,6 +14,7 @@ use control::track_word;
 use control::word;
 use frames::PATH_ROOM;
 use inputs::STANDARD_OUTPUT;
+use marks::literal_of;
 use offers::offers;
 use places::Literal;
 use places::Path;
@@ -93,17 +94,6 @@ fn tell_nodes(
         }
         n += 1;
     }
-}
-
-// The literal that a mark stands for.
-fn literal_of(mark: usize) -> Literal {
-    if mark < 2 {
-        return Literal::Left(0);
-    }
-    if mark % 2 == 0 {
-        return Literal::Own((mark - 2) / 2);
-    }
-    Literal::Event((mark - 2) / 2)
 }
 
 fn tell_place(literal: Literal, kinds: &Kinds, owners: &Owners, after: &After, roots: &Roots) {

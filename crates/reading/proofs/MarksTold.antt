@@ -27,12 +27,14 @@ use Rattle.columns.specs.words.Columns.{look}
 use Rattle.columns.proofs.Laws.{look-in, look-out}
 use Rattle.places.proofs.Sides.{prefix-inside}
 use Rattle.places.proofs.Laws.{own-only, event-only, left-apart, holds-at}
+use Rattle.marks.specs.words.Mark.{term-of, is-event}
+use Rattle.marks.proofs.Laws.{low-read, low-tested, own-read, event-read, own-tested, event-tested, term-is}
 use Rattle.rules.specs.Track.{Label, lookup}
 use Rattle.plans.specs.words.Plan.{Layout}
 use Rattle.plans.specs.words.Layout.{layout}
 use Rattle.plans.proofs.LaidPlaces.{definition-sited, event-of-definition}
 use Rattle.control.specs.words.Words.{reference-room}
-use Rattle.control.specs.words.Views.{place-told}
+use Rattle.control.specs.words.Views.{literal-place}
 use Rattle.graphs.specs.Graph.{Graph}
 use Rattle.graphs.specs.Shape.{same, every, in-order, in-definition, in-term, there, literal-of, placed}
 use Rattle.graphs.specs.Shape.{event-of-term, event-of-literal, event-of}
@@ -44,11 +46,11 @@ use Rattle.walks.specs.code.Walked.{laid}
 use Rattle.walks.proofs.Telling.{mark-told, Telling}
 use Rattle.finding.specs.code.Found.{find, mark-of, marks-of}
 use Rattle.finding.proofs.FoundLaws.{mark-of-literal, marks-length, listed, find-literal, DefinitionsBelow}
-use Rattle.shapes.specs.code.Rules.{is-event, event-at, one-event}
+use Rattle.shapes.specs.code.Rules.{one-event}
 
 -- the event that a mark tells, none where it is no event's
 unfoldable event-told : List ℕ → ℕ → Option ℕ
-event-told ps m = choose (is-event m) (some (event-at ps m)) none
+event-told ps m = choose (is-event m) (some (look term-room ps (term-of m))) none
 
 -- the left-hand side of definition 00
 abbrev left-side : Place
@@ -63,44 +65,24 @@ data Told (s : Sofar) (o : Option Place) (m : ℕ) : Type 0 where
       → m ≡ mark-of-literal (look definition-room (roots s) (w .definition)) (some l) → Told s o m
 
 -- the places that a term's two marks tell
-module _ (l : Layout) (t : ℕ) where
-  own-place : mark-told l (2 * t + 2) ≡ some (l .place t)
-  unfolding mark-told place-told
-  own-place =
-      let m = 2 * t + 2 in
-      let half : (m - 2) / 2 ≡ t = omega arith in
-      simp (ne-eqb m 0 (λ e. omega arith), ne-eqb m 1 (λ e. omega arith), eq-eqb (m % 2) 0 (omega arith), half)
+module _ (l : Layout) (m t : ℕ) where
+  own-place : m ≡ 2 + 2 * t → mark-told l m ≡ some (l .place t)
+  unfolding mark-told literal-place
+  own-place e = rw (ne-eqb m 0 (λ z. omega arith), own-read m t e)
 
-  event-place : mark-told l (2 * t + 3) ≡ some (l .event t)
-  unfolding mark-told place-told
-  event-place =
-      let m = 2 * t + 3 in
-      let half : (m - 3) / 2 ≡ t = omega arith in
-      simp (
-        ne-eqb m 0 (λ e. omega arith),
-        ne-eqb m 1 (λ e. omega arith),
-        ne-eqb (m % 2) 0 (λ e. omega arith),
-        half,
-      )
+  event-place : m ≡ 3 + 2 * t → mark-told l m ≡ some (l .event t)
+  unfolding mark-told literal-place
+  event-place e = rw (ne-eqb m 0 (λ z. omega arith), event-read m t e)
 
 -- and the events
-module _ (ps : List ℕ) (t : ℕ) where
-  own-event : event-told ps (2 * t + 2) ≡ none
-  unfolding event-told is-event
-  own-event =
-      let m = 2 * t + 2 in
-      go (leb 3 m) (ne-eqb (m % 2) 1 (λ e. omega arith))
-    where
-      go : {c : Bool} (b : Bool) → c ≡ false → choose (b && c) (some (event-at ps (2 * t + 2))) none ≡ none
-      go true e = rw e
-      go false e = refl
+module _ (ps : List ℕ) (m t : ℕ) where
+  own-event : m ≡ 2 + 2 * t → event-told ps m ≡ none
+  unfolding event-told
+  own-event e = rw (own-tested m t e .1)
 
-  event-event : event-told ps (2 * t + 3) ≡ some (look term-room ps t)
-  unfolding event-told is-event event-at
-  event-event =
-      let m = 2 * t + 3 in
-      let half : (m - 3) / 2 ≡ t = omega arith in
-      simp (le-leb 3 m (omega arith), eq-eqb (m % 2) 1 (omega arith), half)
+  event-event : m ≡ 3 + 2 * t → event-told ps m ≡ some (look term-room ps t)
+  unfolding event-told
+  event-event e = rw (event-tested m t e .1, term-is m t 1 (omega arith) (omega arith))
 
 -- where columns hold a prefix, its payload is its event
 payload-event : (ks ps xs : List ℕ) (ts : List Term) (t : Term) (i : ℕ) → HoldsTerm ks ps xs i t → IsPrefix t
@@ -147,8 +129,9 @@ one-event-told : (ts : List Term) (ps : List ℕ) (m n : ℕ)
 unfolding one-event Shape.one-event event-told
 one-event-told ts ps m n = go (is-event m) (is-event n)
   where
-    go : (b c : Bool) → b && (c && eqb (event-at ps m) (event-at ps n))
-        ≡ Shape.one-event ts (choose b (some (event-at ps m)) none) (choose c (some (event-at ps n)) none)
+    go : (b c : Bool) → b && (c && eqb (look term-room ps (term-of m)) (look term-room ps (term-of n)))
+        ≡ Shape.one-event ts (choose b (some (look term-room ps (term-of m))) none)
+        (choose c (some (look term-room ps (term-of n))) none)
     go true true = refl
     go true false = refl
     go false c = refl
@@ -163,21 +146,21 @@ module _ (text : List ℕ) (s : Sofar) (q : judged text ≡ accepted s) where
 
   -- a mark tells its place
   told-place : (o : Option Place) (m : ℕ) → Told s o m → o ≡ mark-told (layout s) m
-  unfolding mark-told place-told mark-of-literal
+  unfolding mark-told literal-place mark-of-literal
   told-place o m (bare a b) = rw (a, b)
-  told-place o m (start a b) = rw (a, b)
+  told-place o m (start a b) = rw (a, ne-eqb m 0 (λ e. omega arith), low-read m (omega arith))
   told-place o m (literal w T (own n) a e x b) =
       let (h, p) = own-only T (w .path) n x in
       let is : w ≡ layout s .place (root (w .definition) + n) =
       ap (λ (v : List ℕ). record { definition = w .definition; path = v }) p
       ∙ sym (definition-sited text s q (w .definition) T e n h) in
-      a ∙ ap some is ∙ sym (own-place (layout s) (root (w .definition) + n)) ∙ ap (mark-told (layout s)) (sym b)
+      a ∙ ap some is ∙ sym (own-place (layout s) m (root (w .definition) + n) (omega (arith, b)))
   told-place o m (literal w T (event n) a e x b) =
       let (h, p) = event-only T (w .path) n x in
       let is : w ≡ layout s .event (root (w .definition) + n) =
       ap (λ (v : List ℕ). record { definition = w .definition; path = v }) p
       ∙ sym (event-of-definition text s q (w .definition) T e n h) in
-      a ∙ ap some is ∙ sym (event-place (layout s) (root (w .definition) + n)) ∙ ap (mark-told (layout s)) (sym b)
+      a ∙ ap some is ∙ sym (event-place (layout s) m (root (w .definition) + n) (omega (arith, b)))
 
   -- no event stands at the left-hand side
   left-no-event : (o : Option Term) → event-of-literal ts o (in-definition o left-path) ≡ none
@@ -187,11 +170,11 @@ module _ (text : List ℕ) (s : Sofar) (q : judged text ≡ accepted s) where
 
   -- and its event
   told-event : (o : Option Place) (m : ℕ) → Told s o m → event-of ts o ≡ event-told (payloads s) m
-  unfolding event-of event-of-literal in-definition in-term mark-of-literal event-told is-event
-  told-event o m (bare a b) = rw (a, b)
-  told-event o m (start a b) = rw (a, b) (left-no-event (getElem? ts 0))
+  unfolding event-of event-of-literal in-definition in-term mark-of-literal event-told
+  told-event o m (bare a b) = rw (a, low-tested m (omega arith) .1)
+  told-event o m (start a b) = rw (a, low-tested m (omega arith) .1) (left-no-event (getElem? ts 0))
   told-event o m (literal w T (own n) a e x b) =
-      rw (a, b, e, x) (sym (own-event (payloads s) (root (w .definition) + n)))
+      rw (a, e, x) (sym (own-event (payloads s) m (root (w .definition) + n) (omega (arith, b))))
   told-event o m (literal w T (event n) a e x b) =
       let i = root (w .definition) + n in
       let (h, p) = event-only T (w .path) n x in
@@ -202,9 +185,9 @@ module _ (text : List ℕ) (s : Sofar) (q : judged text ≡ accepted s) where
       let inside : i < term-room = omega (arith, prefix-inside T n h) in
       let held = rw at-root at (stands .holds) in
       let held-there = holds-at (kinds s) (payloads s) (afters s) T n (prefix-inside T n h) _ held in
-      rw (a, b, e, x)
+      rw (a, e, x)
       (payload-event (kinds s) (payloads s) (afters s) ts (term-at T n) i held-there h
-      ∙ ap some (look-in term-room (payloads s) i inside) ∙ sym (event-event (payloads s) i))
+      ∙ ap some (look-in term-room (payloads s) i inside) ∙ sym (event-event (payloads s) m i (omega (arith, b))))
 
   -- the mark at a place is that of the literal there
   abbrev found-at : Place → ℕ

@@ -17,10 +17,11 @@ use Rattle.lines.specs.Line.{choose}
 use Rattle.tables.specs.Table.{Sofar, accepted, judged}
 use Rattle.tables.specs.words.Columns.{kinds, owners, afters, roots}
 use Rattle.terms.specs.Term.{definitions-of}
-use Rattle.places.specs.Place.{left-path}
 use Rattle.columns.specs.words.Columns.{Columns, columns}
 use Rattle.places.specs.code.Descent.{literal-path, literal-definition}
+use Rattle.places.specs.declared.Literal.{Literal}
 use Rattle.places.specs.declared.Literal.the-variants.{Left, Own, Event}
+use Rattle.marks.specs.words.Mark.{literal}
 use Rattle.columns.proofs.Laws.{look-in, look-out}
 use Rattle.control.specs.words.Words.{reference-room, track-words}
 use Rattle.rules.specs.Track.{Label, Pair, lookup}
@@ -28,7 +29,7 @@ use Rattle.rules.specs.Run.{arc-room, meeting-room}
 use Rattle.rules.proofs.Marked.{tally}
 use Rattle.rules.proofs.Weighed.{between}
 use Rattle.plans.specs.words.Layout.{layout, place-of, found}
-use Rattle.control.specs.words.Views.{place-told}
+use Rattle.control.specs.words.Views.{literal-place, place-told}
 use Rattle.graphs.specs.Graph.{Graph, joins, meets}
 use Rattle.graphs.specs.Walk.{among, order}
 use Rattle.graphs.specs.Saved.{placed, numbered, canonical}
@@ -52,7 +53,7 @@ use Rattle.numbering.specs.code.Numbered.{track-out}
 use Rattle.links.proofs.Listed.{pairs-length, arcs-back, meetings-back}
 use Rattle.pairing.proofs.Renumbering.{renumbered-below}
 use Rattle.sorting.proofs.Ordering.{sorted-joins, sorted-ascends}
-use Rattle.framing.specs.words.Told.{literal, place-by, labels-told, graph-told}
+use Rattle.framing.specs.words.Told.{place-by, labels-told, graph-told}
 use Rattle.saving.proofs.NumberLaws.{Numbers, numbers-told, numbers-most, way, renumbered-joins}
 use Rattle.saving.proofs.NumberLaws.{renumbered-times}
 
@@ -165,30 +166,13 @@ labels-numbered c ls ms out k (n ∷ o) marks places =
     (within-rest (λ n. lookup n ls ≡ some (place-by c (at ms n))) n o places) in
     rw (places n (among-first n o), here, rest)
 
--- a mark tells the place of its literal
-pub mark-place : (s : Sofar) (m : ℕ) → (m ≡ 0 → ⊥)
-    → place-told (layout s) m ≡ place-by (columns (kinds s) (owners s) (afters s) (roots s)) m
-unfolding place-told literal layout place-of found literal-definition literal-path
-mark-place s m some-mark = go (eqb m 1) (eqb (m % 2) 0) refl
-  where
-    c : Columns
-    c = columns (kinds s) (owners s) (afters s) (roots s)
-
-    go : (a b : Bool) → eqb m 1 ≡ a
-        → choose a (record { definition = 0; path = left-path })
-        (choose b (place-of c (Own ((m - 2) / 2))) (place-of c (Event ((m - 3) / 2))))
-        ≡ place-of c (choose (leb m 1) (Left 0) (choose b (Own ((m - 2) / 2)) (Event ((m - 3) / 2))))
-    go true b e = rw (le-leb m 1 (omega (arith, eqb-true m 1 e)))
-    go false b e = rw (lt-leb m 1 (many (eqb-false m 1 e))) (by-parity b)
-      where
-        many : (m ≡ 1 → ⊥) → 1 < m
-        many other = omega arith
-
-        by-parity : (b : Bool)
-            → choose b (place-of c (Own ((m - 2) / 2))) (place-of c (Event ((m - 3) / 2)))
-            ≡ place-of c (choose b (Own ((m - 2) / 2)) (Event ((m - 3) / 2)))
-        by-parity true = refl
-        by-parity false = refl
+-- a table's layout and its columns tell the same place of a literal
+pub literal-placed : (s : Sofar) (a : Literal)
+    → literal-place (layout s) a ≡ place-of (columns (kinds s) (owners s) (afters s) (roots s)) a
+unfolding literal-place layout place-of found literal-definition literal-path
+literal-placed s (Left d) = refl
+literal-placed s (Own i) = refl
+literal-placed s (Event i) = refl
 
 -- graphs by their parts
 same-graph : {ls ls′ : List Label} {as′ bs : List Pair} {ms ns : List Pair} → ls ≡ ls′ → as′ ≡ bs → ms ≡ ns
@@ -256,7 +240,7 @@ module _ (text : List ℕ) (s : Sofar) (q : judged text ≡ accepted s) (ms : Li
       go : (b : Bool) → eqb (at ms n) 0 ≡ b → not b ≡ true
           → choose b none (some (place-told (layout s) (at ms n))) ≡ some (place-by places (at ms n))
       go true e h = let z : _≡_ {A = ℕ} 0 1 = cc in absurd (omega arith)
-      go false e h = ap some (mark-place s (at ms n) (eqb-false (at ms n) 0 e))
+      go false e h = ap some (literal-placed s (literal (at ms n)))
 
   -- there is room for them
   few-nodes : length (order g) ≤ reference-room

@@ -16,7 +16,7 @@ use Rattle.rules.specs.Track.{Pair, pair}
 use Rattle.control.specs.words.Views.{pairs}
 use Rattle.graphs.specs.Shape.{every, before, before-first, ascends, upward, from-on}
 use Rattle.links.specs.words.Columns.{at}
-use Rattle.shapes.specs.code.Rules.{is-event, one-event}
+use Rattle.shapes.specs.code.Rules.{one-event}
 
 -- rules one behind the other: one that is not met settles it, and one that is met leaves it to the rest
 pub rule-broken : {rule : Bool} (rest : Bool) → rule ≡ false → false ≡ (rule && rest)
@@ -166,11 +166,6 @@ module _ (base : ℕ) (w : List ℕ) (c : ℕ) where
       pair-rises l =
           let same : i + 1 - 1 ≡ i = omega arith in
           (omega arith, rw same (both-words ∙ rw (not-false (ltb p f || (eqb p f && ltb q s)) l)))
-
--- a mark of an event is at least 3
-pub event-least : (m : ℕ) → is-event m ≡ true → 3 ≤ m
-unfolding is-event
-event-least m e = leb-true 3 m (both (leb 3 m) _ e .0)
 
 -- the test of a meeting: it is of one event, where its first number is the lower
 abbrev pub meets-well : List ℕ → List ℕ → Pair → Bool

@@ -3,17 +3,19 @@
 use columns::After;
 use columns::Kinds;
 use columns::Payloads;
+use columns::set_of;
 use control::MEETINGS_FROM;
 use control::REFERENCES;
 use control::Track;
 use control::track_word;
-use frames::TERM_ROOM;
 use links::Column;
 use links::SIDE_WORDS;
 use links::SideWords;
 use links::at_most;
 use links::link;
 use links::reference_word;
+use marks::is_event;
+use marks::term_of;
 use rules::ARC_ROOM;
 use rules::MEETING_ROOM;
 use walks::walk;
@@ -146,21 +148,5 @@ fn of_one_event(first: usize, second: usize, payloads: &Payloads) -> bool
     if !is_event(second) {
         return false;
     }
-    event_at(first, payloads) == event_at(second, payloads)
-}
-
-// Whether a mark is of a prefix's event.
-fn is_event(mark: usize) -> bool
-    ensures { λ r. ⌜ r ≡ of.is-event mark ⌝ }
-{
-    (3 <= mark) & (mark % 2 == 1)
-}
-
-// The event of such a mark.
-fn event_at(mark: usize, payloads: &Payloads) -> u64
-    requires { ⌜ 3 ≤ mark ⌝ }
-    ensures { λ r. ⌜ r ≡ of.event-at (now (payloads .entry)) mark ⌝ }
-{
-    let term = (mark - 3) / 2;
-    if term < TERM_ROOM { payloads[term] } else { 0 }
+    set_of(term_of(first), payloads) == set_of(term_of(second), payloads)
 }

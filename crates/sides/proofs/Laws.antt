@@ -13,7 +13,8 @@ use Rattle.rules.specs.declared.Event.{Event}
 use Rattle.control.specs.words.Sums.{capped}
 use Rattle.weights.specs.code.Rules.{stays, shown}
 use Rattle.drawing.specs.code.Drawing.{labelled, standing, one-arc, drawn, with-arc, Kept, met-all}
-use Rattle.leaves.specs.code.Leaves.{come, own-mark, settled}
+use Rattle.marks.specs.words.Mark.{own-mark}
+use Rattle.leaves.specs.code.Leaves.{come, settled}
 use Rattle.sides.specs.code.Sides.{one-node, entered, side-tally, side-nodes, side-track, put-side, one}
 use Rattle.sides.specs.code.Sides.{both}
 use Rattle.drawing.specs.declared.Tally.{Tally}

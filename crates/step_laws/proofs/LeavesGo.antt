@@ -35,12 +35,14 @@ use Rattle.looking.specs.code.Looking.{digit-at, taken}
 use Rattle.weighing.proofs.Told.{wrapped, wrapped-none, number, From, from-at, next-at}
 use Rattle.drawing.specs.code.Drawing.{one-node, one-arc, one-met, drawn, standing}
 use Rattle.drawing.specs.code.Drawing as Marks
-use Rattle.leaves.specs.code.Leaves.{Done, own-mark, event-mark, single, settled, by-event, after-settling}
+use Rattle.marks.specs.words.Mark.{own-mark, event-mark}
+use Rattle.marks.proofs.Laws.{own-small, event-small, own-some, event-some}
+use Rattle.leaves.specs.code.Leaves.{Done, single, settled, by-event, after-settling}
 use Rattle.leaves.specs.code.Leaves as Leaves
 use Rattle.step_laws.proofs.TrackLoops.{capped-below}
 use Rattle.step_laws.proofs.NodeViews.{standing-there, standing-elsewhere, labelled-whole}
-use Rattle.step_laws.proofs.NodeViews.{labelled-there, labelled-elsewhere, own-small, own-some}
-use Rattle.step_laws.proofs.NodeViews.{own-told, event-small, event-some, event-told}
+use Rattle.step_laws.proofs.NodeViews.{labelled-there, labelled-elsewhere}
+use Rattle.step_laws.proofs.NodeViews.{own-told, event-told}
 use Rattle.step_laws.proofs.Writing.{Words, followed, Writes, behind}
 use Rattle.step_laws.proofs.Going.{at-words, added, Fits, Ready, Goes, Ends}
 use Rattle.step_laws.proofs.Parts.{label-to, arc-to, on-to, keep-to, one-on, one-kept, Clean}
@@ -114,7 +116,7 @@ module _ (l : Layout) (p x : List ℕ) (count n b : ℕ) (P : Process) (ks : Lis
           (one-on n v (u .tally .fresh))
       unfolding labelled
       one-writes = on-writes l (λ j. held j n P) u clean-there n (own-mark at-term) v drawn-there room
-          (rests .bare) (own-small at-term) (own-some at-term term-below)
+          (rests .bare) (own-small at-term) (own-some at-term)
           (own-told at-term term-below l ∙ place-is) (omega (arith, part .nodes-fit))
           (omega (arith, part .arcs-fit)) own-apart s t f
 
@@ -139,7 +141,7 @@ module _ (l : Layout) (p x : List ℕ) (count n b : ℕ) (P : Process) (ks : Lis
           (own-small at-term) in
           around-called p (after-one u n s t f) n at-term at-frame g b
           (kept 2 (omega arith) (λ e. omega arith)) (kept 3 (omega arith) (λ e. omega arith))
-          (λ e. own-some at-term term-below (sym mark-is ∙ e)) (rests .stands .within) bare ks one-chain
+          (λ e. own-some at-term (sym mark-is ∙ e)) (rests .stands .within) bare ks one-chain
 
       one-ends : (a : Address) (at size : ℕ) → at ≡ count - length a → size ≡ length ks + cells Q
           → ((e ≡ ✓ → ⊥) → HoldsControl l p x (after-one u n s t f) (u .tally .fresh) b Q ks)
@@ -286,7 +288,7 @@ module _ (l : Layout) (p x : List ℕ) (count n b : ℕ) (P : Process) (ks : Lis
       unfolding prefixed
       first-writes = on-arc-writes l (λ j. held j n P) u clean-there n (event-mark at-term) (below v 1)
           drawn-there (omega (arith, part .fresh-fits)) (rests .bare) (event-small at-term)
-          (event-some at-term term-below) (event-told at-term term-below l ∙ event-place)
+          (event-some at-term) (event-told at-term term-below l ∙ event-place)
           (omega (arith, part .nodes-fit)) (omega (arith, part .arcs-fit)) own-apart
 
       second-writes : Writes l (λ j. Marked.one j (u .tally .fresh)) first-to second-to
@@ -297,7 +299,7 @@ module _ (l : Layout) (p x : List ℕ) (count n b : ℕ) (P : Process) (ks : Lis
           let k = first-writes in
           on-writes l (λ j. Marked.one j m) first-to (clean-after l _ u first-to _ clean-there k) m
           (own-mark at-term) v (omega (arith, first-fresh)) (omega (arith, first-fresh, part .fresh-fits))
-          (bare-later (event-mark at-term) m (omega arith)) (own-small at-term) (own-some at-term term-below)
+          (bare-later (event-mark at-term) m (omega arith)) (own-small at-term) (own-some at-term)
           (own-told at-term term-below l ∙ place-is) (omega (arith, k .nodes-counted, part .nodes-fit))
           (omega (arith, k .arcs-counted, part .arcs-fit)) (λ j h z e. omega (arith, z, one-same j m e))
           resting (suc at-term) at-frame

@@ -10,17 +10,17 @@ use native.Mathlib.Omega.{arith}
 use lib.Dec.{eqb, ltb}
 use borrow.Author.Tests.{eqb-true, eqb-false, eq-eqb, ne-eqb, le-ltb, ltb-false}
 use Rattle.lines.specs.Line.{choose}
+use Rattle.marks.specs.words.Mark.{own-mark, event-mark}
+use Rattle.marks.proofs.Laws.{own-small, own-is, event-is, own-read, event-read}
 use Rattle.plans.specs.words.Plan.{Layout}
 use Rattle.control.specs.words.Words.{reference-room, node, put}
 use Rattle.control.specs.words.Control.{label, state, term, frame, first-cells, second-cells, resting}
 use Rattle.control.specs.words.Control as Control
 use Rattle.control.proofs.NodeLaws.{Whole, put-whole, put-same, put-other}
 use Rattle.control.proofs.Framed.{Same, Lasting, words-lasting, marked-not-bare, put-elsewhere, put-lasting}
-use Rattle.control.specs.words.Sums.{capped}
 use Rattle.drawing.specs.code.Drawing.{labelled, standing}
-use Rattle.leaves.specs.code.Leaves.{own-mark, event-mark}
 use Rattle.sides.specs.code.Sides.{entered, side-nodes, put-side}
-use Rattle.control.specs.words.Views.{place-told, marked}
+use Rattle.control.specs.words.Views.{literal-place, place-told, marked}
 use Rattle.drawing.specs.declared.Tally.{Tally}
 
 -- a word of the reference at which another is put
@@ -93,61 +93,15 @@ module _ (n mark : ℕ) (w : List ℕ) where
   unfolding labelled
   labelled-lasting = put-lasting 0 w n mark (omega arith)
 
--- counts that do not pass 65,535
-capped-most : (n : ℕ) → capped n < 65536
-unfolding capped
-capped-most n = go (ltb 65535 n) refl
-  where
-    go : (b : Bool) → ltb 65535 n ≡ b → choose b 65535 n < 65536
-    go true e = omega arith
-    go false e = let h = ltb-false 65535 n e in omega arith
+-- the places that a term's marks tell
+module _ (t : ℕ) (h : t < 1024) (l : Layout) where
+  pub own-told : place-told l (own-mark t) ≡ l .place t
+  unfolding literal-place
+  own-told = ap (literal-place l) (own-read (own-mark t) t (own-is t h))
 
-capped-within : (n : ℕ) → n < 65536 → capped n ≡ n
-unfolding capped
-capped-within n h = simp (le-ltb 65535 n (omega arith))
-
--- the marks of a term's own literal and of a prefix's event
-pub own-small : (t : ℕ) → own-mark t < 65536
-unfolding own-mark
-own-small t = capped-most (capped (t + t) + 2)
-
-pub event-small : (t : ℕ) → event-mark t < 65536
-unfolding event-mark
-event-small t = capped-most (capped (t + t) + 3)
-
-module _ (t : ℕ) (h : t < 1024) where
-  pub own-is : own-mark t ≡ t + t + 2
-  unfolding own-mark
-  own-is = rw (capped-within (t + t) (omega arith)) (capped-within (t + t + 2) (omega arith))
-
-  pub event-is : event-mark t ≡ t + t + 3
-  unfolding event-mark
-  event-is = rw (capped-within (t + t) (omega arith)) (capped-within (t + t + 3) (omega arith))
-
-  pub own-some : own-mark t ≡ 0 → ⊥
-  own-some e = omega (arith, own-is)
-
-  pub event-some : event-mark t ≡ 0 → ⊥
-  event-some e = omega (arith, event-is)
-
-  module _ (l : Layout) where
-    pub own-told : place-told l (own-mark t) ≡ l .place t
-    unfolding place-told
-    own-told =
-        let m = t + t + 2 in
-        let not-left : eqb m 1 ≡ false = ne-eqb m 1 (λ e. omega arith) in
-        let is-own : eqb (m % 2) 0 ≡ true = eq-eqb (m % 2) 0 (omega arith) in
-        let half : (m - 2) / 2 ≡ t = omega arith in
-        rw own-is (simp (not-left, is-own, half))
-
-    pub event-told : place-told l (event-mark t) ≡ l .event t
-    unfolding place-told
-    event-told =
-        let m = t + t + 3 in
-        let not-left : eqb m 1 ≡ false = ne-eqb m 1 (λ e. omega arith) in
-        let is-event : eqb (m % 2) 0 ≡ false = ne-eqb (m % 2) 0 (λ e. omega arith) in
-        let half : (m - 3) / 2 ≡ t = omega arith in
-        rw event-is (simp (not-left, is-event, half))
+  pub event-told : place-told l (event-mark t) ≡ l .event t
+  unfolding literal-place
+  event-told = ap (literal-place l) (event-read (event-mark t) t (event-is t h))
 
 -- the place that a reference is labelled with goes by its label
 pub marked-same : (l : Layout) (w w′ : List ℕ) (j : ℕ) → label w′ j ≡ label w j → marked l w′ j ≡ marked l w j

@@ -16,6 +16,7 @@ use Rattle.places.specs.Place.{Place}
 use Rattle.rules.specs.Process.{Split, choice, together, Process, split, cells}
 use Rattle.rules.proofs.Marked.{one, one-same, past, past-drawn, Unentered, By-side, Fit}
 use Rattle.rules.proofs.Holding.{held, side-held, split-held}
+use Rattle.marks.proofs.Laws.{own-some}
 use Rattle.plans.specs.words.Plan.{Layout, kind, second, around}
 use Rattle.plans.proofs.Laws.{word-out}
 use Rattle.control.specs.words.Words.{reference-room, node}
@@ -27,7 +28,7 @@ use Rattle.sides.specs.code.Sides.{entered}
 use Rattle.control.specs.words.Views.{marked, first-of}
 use Rattle.step_laws.proofs.TrackLoops.{capped-below}
 use Rattle.step_laws.proofs.NodeViews.{entered-whole, entered-there, entered-elsewhere, entered-same}
-use Rattle.step_laws.proofs.NodeViews.{entered-lasting, own-told, own-some, marked-some, marked-none}
+use Rattle.step_laws.proofs.NodeViews.{entered-lasting, own-told, marked-some, marked-none}
 use Rattle.step_laws.proofs.NodeViews.{marked-same}
 use Rattle.step_laws.proofs.Writing.{Words, Writes, first-none}
 use Rattle.step_laws.proofs.Going.{Sound, Ready}
@@ -248,7 +249,7 @@ module _ (l : Layout) (p x : List ℕ) (count n b : ℕ) (ks : List ℕ) (v : Pl
           let here : j ≡ n = eqb-true j n e in
           let begun = entered-there n t w (omega (arith, opened-drawn)) (ready .sound .whole-nodes) in
           rw here (rw (marked-none l w n (ready .holds .bare))
-          (marked-some l (entered n t w) n _ (begun .label-is) (own-some t opened-room)
+          (marked-some l (entered n t w) n _ (begun .label-is) (own-some t)
           ∙ ap some (own-told t opened-room l ∙ opened-plan .0)))
       go false e =
           marked-same l w (entered n t w) j (entered-same n t w j (eqb-false j n e) 0 (omega arith))
@@ -283,7 +284,7 @@ module _ (l : Layout) (p x : List ℕ) (count n b : ℕ) (ks : List ℕ) (v : Pl
         stands = stands-framed l p x w (entered n t w) opened-lasting n b ks at-term
             (opened-word 3 (omega arith) (omega arith)) (ready .holds .stands);
         enters = begun .state-is;
-        marked = λ e. own-some t opened-room (sym (begun .label-is) ∙ e);
+        marked = λ e. own-some t (sym (begun .label-is) ∙ e);
         place-is = rw at-term (plan .0);
         kind-is = rw at-term (plan .1);
         set-is = rw at-term (plan .2);

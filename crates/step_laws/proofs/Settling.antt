@@ -28,10 +28,12 @@ use Rattle.control.proofs.Chains.{Awaiting, TellsBehind, wrapped-cells, wrapped
 use Rattle.control.proofs.Chains as Chains
 use Rattle.weighing.proofs.Told.{wrapped}
 use Rattle.drawing.specs.code.Drawing.{one-node, one-arc, drawn, labelled}
-use Rattle.leaves.specs.code.Leaves.{Done, own-mark, ends, by-event, settled}
+use Rattle.marks.specs.words.Mark.{own-mark}
+use Rattle.marks.proofs.Laws.{own-small, own-some}
+use Rattle.leaves.specs.code.Leaves.{Done, ends, by-event, settled}
 use Rattle.leaves.specs.code.Leaves as Leaves
 use Rattle.step_laws.proofs.TrackLoops.{capped-below}
-use Rattle.step_laws.proofs.NodeViews.{labelled-whole, labelled-elsewhere, own-small, own-some}
+use Rattle.step_laws.proofs.NodeViews.{labelled-whole, labelled-elsewhere}
 use Rattle.step_laws.proofs.NodeViews.{own-told}
 use Rattle.step_laws.proofs.Writing.{Words, Writes, followed, behind as behind-part}
 use Rattle.step_laws.proofs.Going.{words-of, added, Sound, Fits, Matches, Goes, Ends}
@@ -273,7 +275,7 @@ module _ (l : Layout) (p x : List ℕ) (count n b t f : ℕ) (P : Process) (u : 
         (omega (arith, m .fresh-is, m .reference-is, there .4))
         (omega (arith, m .fresh-is, fits .fresh-fits))
         (rw (m .reference-is) (there .1))
-        (own-small k) (own-some k small) (own-told k small l ∙ tells .0 .place-is)
+        (own-small k) (own-some k) (own-told k small l ∙ tells .0 .place-is)
         (omega (arith, m .writes .nodes-counted, fits .nodes-fit, labels))
         (omega (arith, m .writes .arcs-counted, fits .arcs-fit, arcs))
         (λ j g z same. omega (arith, z, one-same j i same))

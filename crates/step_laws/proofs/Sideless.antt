@@ -21,13 +21,15 @@ use Rattle.control.specs.words.Sums.{capped}
 use Rattle.looking.specs.code.Looking.{taken}
 use Rattle.weights.specs.code.Rules.{stays}
 use Rattle.drawing.specs.code.Drawing.{labelled, standing}
-use Rattle.leaves.specs.code.Leaves.{Done, own-mark, event-mark, started, ends, by-event, settled, single}
+use Rattle.marks.specs.words.Mark.{own-mark, event-mark}
+use Rattle.marks.proofs.Laws.{own-small, event-small, own-some, event-some}
+use Rattle.leaves.specs.code.Leaves.{Done, started, ends, by-event, settled, single}
 use Rattle.leaves.specs.code.Leaves.{prefix, after-settling, leaf, end}
 use Rattle.sides.specs.code.Sides.{entered, side-nodes, put-side, one, both}
 use Rattle.drawing.specs.declared.Tally.{Tally}
 use Rattle.leaves.specs.declared.Taken.{Taken}
 use Rattle.step_laws.proofs.NodeViews.{standing-whole, standing-elsewhere, labelled-whole}
-use Rattle.step_laws.proofs.NodeViews.{labelled-there, labelled-elsewhere, own-small, event-small}
+use Rattle.step_laws.proofs.NodeViews.{labelled-there, labelled-elsewhere}
 use Rattle.step_laws.proofs.NodeViews.{put-side-whole, put-side-elsewhere, side-nodes-whole}
 use Rattle.step_laws.proofs.NodeViews.{side-nodes-elsewhere}
 
@@ -39,23 +41,6 @@ pub record Sideless (w : List ℕ) : Type 0 where
 beyond-room : (i : ℕ) (w : List ℕ) (j : ℕ) → ltb j reference-room ≡ false → node i w j ≡ 0
 unfolding node
 beyond-room i w j h = rw h
-
--- marks are no 0
-capped-some : (n : ℕ) → 1 ≤ n → capped n ≡ 0 → ⊥
-unfolding capped
-capped-some n h e = go (ltb 65535 n) e
-  where
-    go : (b : Bool) → choose b 65535 n ≡ 0 → ⊥
-    go true q = omega arith
-    go false q = omega arith
-
-own-marks : (t : ℕ) → own-mark t ≡ 0 → ⊥
-unfolding own-mark
-own-marks t = capped-some (capped (t + t) + 2) (omega arith)
-
-event-marks : (t : ℕ) → event-mark t ≡ 0 → ⊥
-unfolding event-mark
-event-marks t = capped-some (capped (t + t) + 3) (omega arith)
 
 -- words whose labels and sides are the same
 same-sideless : (w w′ : List ℕ) → Whole w′ → ((j : ℕ) → label w′ j ≡ label w j)
@@ -129,7 +114,7 @@ put-sideless i w n v h a b c s =
 pub entered-sideless : (n t : ℕ) (w : List ℕ) → Sideless w → Sideless (entered n t w)
 unfolding entered
 entered-sideless n t w s =
-    labelled-sideless n (own-mark t) _ (own-small t) (own-marks t)
+    labelled-sideless n (own-mark t) _ (own-small t) (own-some t)
     (put-sideless 7 _ n 1 (omega arith) (λ e. omega arith) (λ e. omega arith) (λ e. omega arith)
     (put-sideless 6 _ n 1 (omega arith) (λ e. omega arith) (λ e. omega arith) (λ e. omega arith)
     (put-sideless 1 w n _ (omega arith) (λ e. omega arith) (λ e. omega arith) (λ e. omega arith) s)))
@@ -176,7 +161,7 @@ module _ (p : List ℕ) (d : Taken) (t f b : ℕ) (w g : List ℕ) (s : Sideless
   unfolding started
   started-sideless k i = record {
     after = standing-sideless (d .tally .fresh) resting (second p k) i _
-        (labelled-sideless (d .reference) (own-mark k) w (own-small k) (own-marks k) s);
+        (labelled-sideless (d .reference) (own-mark k) w (own-small k) (own-some k) s);
   }
 
   ends-sideless : Keeps (ends p d t f b w g)
@@ -202,14 +187,14 @@ module _ (p : List ℕ) (n b at size d : ℕ) (k : Tally) (w g : List ℕ) (s : 
   unfolding single
   single-sideless e q t i f at size = record {
     after = standing-sideless (k .fresh) q i f _
-        (labelled-sideless n (own-mark t) w (own-small t) (own-marks t) s);
+        (labelled-sideless n (own-mark t) w (own-small t) (own-some t) s);
   }
 
   prefix-sideless : (t f e : ℕ) → Keeps (prefix n t f e at size k w g)
   unfolding prefix
   prefix-sideless t f e = record {
-    after = standing-sideless _ _ _ _ _ (labelled-sideless _ (own-mark t) _ (own-small t) (own-marks t)
-        (labelled-sideless n (event-mark t) w (event-small t) (event-marks t) s));
+    after = standing-sideless _ _ _ _ _ (labelled-sideless _ (own-mark t) _ (own-small t) (own-some t)
+        (labelled-sideless n (event-mark t) w (event-small t) (event-some t) s));
   }
 
   after-sideless : (t f : ℕ) (c : Done) → Keeps c → Keeps (after-settling p t f b c)

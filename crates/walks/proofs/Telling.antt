@@ -29,17 +29,20 @@ use Rattle.columns.specs.words.Columns.{look, columns}
 use Rattle.columns.proofs.Laws.{look-in}
 use Rattle.places.proofs.Sides.{Side, first, second, side-inside}
 use Rattle.places.proofs.Laws.{own-found, event-found, left-apart, holds-at, Defined, checked-roots}
+use Rattle.marks.specs.words.Mark.{term-of}
+use Rattle.marks.proofs.Laws.{Read, unmarked, at-start, at-own, at-event, read, low-read, own-read, event-read}
+use Rattle.marks.proofs.Laws.{low-tested, own-tested, event-tested, term-is}
 use Rattle.rules.specs.Track.{lookup}
 use Rattle.plans.specs.words.Plan.{Layout}
 use Rattle.plans.specs.words.Layout.{layout}
 use Rattle.plans.proofs.LaidMarks.{InTable, own-sited, event-sited}
-use Rattle.control.specs.words.Views.{place-told}
+use Rattle.control.specs.words.Views.{literal-place, place-told}
 use Rattle.graphs.specs.Graph.{Graph, present, labelled}
 use Rattle.graphs.specs.Shape.{in-definition, in-term, splits-term, splits-literal}
 use Rattle.graphs.specs.Shape as Shape
 use Rattle.graphs.proofs.Pairs.{refuted}
 use Rattle.links.specs.words.Columns.{at}
-use Rattle.links.specs.code.Linked.{term-of, splits, side-of, slot}
+use Rattle.links.specs.code.Linked.{splits, side-of, slot}
 use Rattle.walks.proofs.SideLaws.{runs, runs-in, runs-before, runs-behind, runs-true, runs-moved, Tail}
 use Rattle.walks.proofs.SideLaws.{term-fits, side-begins}
 
@@ -57,11 +60,6 @@ data Marks (s : Sofar) (m : ℕ) (w : Place) : Type 0 where
   start : m ≡ 1 → w ≡ record { definition = 0; path = left-path } → Marks s m w
   literal : (t : ℕ) (b : InTable s t) (r : List ℕ) → Tail (b .tree) (b .number) r → m ≡ 2 + 2 * t + length r
       → w ≡ record { definition = b .definition; path = path-in (b .tree) (b .number) ++ r } → Marks s m w
-
--- a literal's mark: is it an event's, and of which term
-mark-parts : (m t k : ℕ) → k ≤ 1 → m ≡ 2 + 2 * t + k → (2 ≤ m) × (m % 2 ≡ k) × (term-of m ≡ t)
-unfolding term-of
-mark-parts m t k h e = (omega arith, omega arith, omega arith)
 
 -- a tail has at most one digit
 tail-short : (T : Term) (j : ℕ) (r : List ℕ) → Tail T j r → length r ≤ 1
@@ -142,26 +140,19 @@ module _ (text : List ℕ) (s : Sofar) (q : judged text ≡ accepted s) where
   -- a mark of a place in a definition
   marks : (m : ℕ) → (m ≡ 0 → ⊥) → (place-told (layout s) m .definition ≡ definition-room → ⊥)
       → Marks s m (place-told (layout s) m)
-  unfolding place-told
-  marks m some-mark away = go (eqb m 1) (eqb (m % 2) 0) refl refl away
+  unfolding literal-place
+  marks m some-mark away = go (read m)
     where
-      go : (a b : Bool) → eqb m 1 ≡ a → eqb (m % 2) 0 ≡ b
-          → (choose a (record { definition = 0; path = left-path })
-          (choose b (layout s .place ((m - 2) / 2)) (layout s .event ((m - 3) / 2))) .definition
-          ≡ definition-room → ⊥)
-          → Marks s m (choose a (record { definition = 0; path = left-path })
-          (choose b (layout s .place ((m - 2) / 2)) (layout s .event ((m - 3) / 2))))
-      go true b e f away = start (eqb-true m 1 e) refl
-      go false true e f away =
-          let even = eqb-true (m % 2) 0 f in
-          let (b, place) = own-sited text s q ((m - 2) / 2) away in
-          literal ((m - 2) / 2) b [] (inl refl) (omega arith)
-          (place ∙ rw (append-nil (path-in (b .tree) (b .number))))
-      go false false e f away =
-          let odd = eqb-false (m % 2) 0 f in
-          let other = eqb-false m 1 e in
-          let (b, p, place) = event-sited text s q ((m - 3) / 2) away in
-          literal ((m - 3) / 2) b (1 ∷ []) (inr (p, refl)) (omega arith) place
+      go : Read m → Marks s m (place-told (layout s) m)
+      go (unmarked e) = absurd (some-mark e)
+      go (at-start e) = start e (rw (low-read m (omega arith)))
+      go (at-own t e) =
+          let (b, place) = own-sited text s q t (rw (own-read m t e) at away) in
+          literal t b [] (inl refl) (omega arith)
+          (rw (own-read m t e) (place ∙ rw (append-nil (path-in (b .tree) (b .number)))))
+      go (at-event t e) =
+          let (b, p, place) = event-sited text s q t (rw (event-read m t e) at away) in
+          literal t b (1 ∷ []) (inr (p, refl)) (omega arith) (rw (event-read m t e) place)
 
   -- what the columns have of a number of a tree, with its term
   module _ (t : ℕ) (b : InTable s t) where
@@ -190,19 +181,19 @@ module _ (text : List ℕ) (s : Sofar) (q : judged text ≡ accepted s) where
   -- a mark that splits is of a literal that does
   mark-splits : (m : ℕ) (w : Place) → Marks s m w → splits (kinds s) m ≡ Shape.splits ts w
   unfolding splits splits-literal in-term in-definition
-  mark-splits m w (start e p) = rw (e, p) (go (getElem? ts 0))
+  mark-splits m w (start e p) = rw (low-tested m (omega arith) .0, p) (go (getElem? ts 0))
     where
       go : (o : Option Term) → false ≡ splits-literal ts o (in-definition o left-path)
       go none = refl
       go (some T) = rw (left-apart T)
   mark-splits m w (literal t b r (inl none-behind) e p) =
-      let (many, even, term) = mark-parts m t 0 (omega arith) (omega (arith, ap length none-behind)) in
+      let is : m ≡ 2 + 2 * t = omega (arith, ap length none-behind) in
       let path = append-nil (path-in (b .tree) (b .number)) in
       rw (p, b .is, none-behind, path, own-found (b .tree) (b .number) (b .inside))
-      (rw (le-leb 2 m many, even, term) (kind-told t b))
+      (rw (own-tested m t is .0, term-is m t 0 (omega arith) (omega arith)) (kind-told t b))
   mark-splits m w (literal t b r (inr (prefix, behind)) e p) =
-      let (many, odd, term) = mark-parts m t 1 (omega arith) (omega (arith, ap length behind)) in
-      rw (p, b .is, behind, event-found (b .tree) (b .number) prefix) (rw (le-leb 2 m many, odd))
+      let is : m ≡ 3 + 2 * t = omega (arith, ap length behind) in
+      rw (p, b .is, behind, event-found (b .tree) (b .number) prefix) (rw (event-tested m t is .0))
 
   -- a literal is under a side exactly where its number is one of the side's
   under-runs : (d d′ : ℕ) (T T′ : Term) → getElem? ts d ≡ some T → getElem? ts d′ ≡ some T′ → (i j : ℕ) → i < size T
@@ -242,16 +233,16 @@ module _ (text : List ℕ) (s : Sofar) (q : judged text ≡ accepted s) where
   splitter : (m : ℕ) (w : Place) → splits (kinds s) m ≡ true → Marks s m w → Splitter m w
   unfolding splits
   splitter m w h (start e p) =
-      let no : splits (kinds s) 1 ≡ true = rw e at h in
+      let no = rw (low-tested m (omega arith) .0) at h in
       let z : _≡_ {A = ℕ} 0 1 = cc in absurd (omega arith)
   splitter m w h (literal t b r (inl none-behind) e p) =
-      let (many, even, term) = mark-parts m t 0 (omega arith) (omega (arith, ap length none-behind)) in
-      let splitting = rw (le-leb 2 m many, even, term) at h in
+      let mark : m ≡ 2 + 2 * t = omega (arith, ap length none-behind) in
+      let splitting = rw (own-tested m t mark .0, term-is m t 0 (omega arith) (omega arith)) at h in
       let (o, a, c, is) = two-sides ts (term-at (b .tree) (b .number)) (sym (kind-told t b) ∙ splitting) in
       record {
         term = t;
         of = b;
-        mark = omega (arith, ap length none-behind);
+        mark = mark;
         place = p ∙ rw (none-behind, append-nil (path-in (b .tree) (b .number)));
         operator = o;
         left = a;
@@ -259,8 +250,7 @@ module _ (text : List ℕ) (s : Sofar) (q : judged text ≡ accepted s) where
         is = is;
       }
   splitter m w h (literal t b r (inr (prefix, behind)) e p) =
-      let (many, odd, term) = mark-parts m t 1 (omega arith) (omega (arith, ap length behind)) in
-      let no = rw (le-leb 2 m many, odd) at h in
+      let no = rw (event-tested m t (omega (arith, ap length behind)) .0) at h in
       let z : _≡_ {A = ℕ} 0 1 = cc in absurd (omega arith)
 
   -- the numbers behind its sides
@@ -301,9 +291,9 @@ module _ (text : List ℕ) (s : Sofar) (q : judged text ≡ accepted s) where
         rw (h, e, p .place, at-left, left-outside (path-in (p .of .tree) (p .of .number)) x least)
         (ne-eqb 0 x (λ z. omega arith) ∙ sym (and-false (eqb 0 (p .of .definition))))
     splitter-leads h m′ v (literal t b r tail e at-v) x least most =
-        let (_, _, from) = mark-parts m (p .term) 0 (omega arith) (omega (arith, p .mark)) in
-        let (many, _, to) = mark-parts m′ t (length r) (tail-short (b .tree) (b .number) r tail) e in
-        rw (h, le-ltb m′ 2 many, from, to) (go x least most)
+        let from = term-is m (p .term) 0 (omega arith) (omega (arith, p .mark)) in
+        let to = term-is m′ t (length r) (tail-short (b .tree) (b .number) r tail) e in
+        rw (h, le-ltb m′ 2 (omega arith), from, to) (go x least most)
       where
         by-number : (eqb (side-of (afters s) (p .term) t) 1 ≡ runs (p .term + 1) (size (p .left)) t)
             × (eqb (side-of (afters s) (p .term) t) 2 ≡ runs (p .term + (1 + size (p .left))) (size (p .right)) t)

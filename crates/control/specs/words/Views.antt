@@ -1,11 +1,14 @@
 -- What the words of a run tell of its track: arcs and meetings in the order made, the event nodes of a step, and the
 -- place that a reference is labelled with.
-use Prim.Native.Nat.{ℕ, zero, suc, _+_, _*_, _-_, _/_, _%_}
+use Prim.Native.Nat.{ℕ, zero, suc, _+_, _*_}
 use mathlib.Core.List.{List, [], _∷_}
 use mathlib.Core.Option.{Option, none, some}
 use lib.Dec.{eqb}
 use Rattle.lines.specs.Line.{choose}
 use Rattle.places.specs.Place.{Place, left-path}
+use Rattle.places.specs.declared.Literal.{Literal}
+use Rattle.places.specs.declared.Literal.the-variants.{Left, Own, Event}
+use Rattle.marks.specs.words.Mark.{literal}
 use Rattle.rules.specs.Track.{Pair, pair}
 use Rattle.plans.specs.words.Plan.{Layout}
 use Rattle.control.specs.words.Words.{track-word, event-node}
@@ -30,12 +33,15 @@ unfoldable pub event-nodes : List ℕ → ℕ → ℕ → List ℕ
 event-nodes g i zero = []
 event-nodes g i (suc c) = event-node i g ∷ event-nodes g (suc i) c
 
--- the place that a mark tells: 1 the left-hand side of definition 00, even ones a term's own literal, odd ones a
--- prefix's event
-unfoldable pub place-told : Layout → ℕ → Place
-place-told l m =
-    choose (eqb m 1) (record { definition = 0; path = left-path })
-    (choose (eqb (m % 2) 0) (l .place ((m - 2) / 2)) (l .event ((m - 3) / 2)))
+-- the place of a literal
+unfoldable pub literal-place : Layout → Literal → Place
+literal-place l (Left d) = record { definition = d; path = left-path }
+literal-place l (Own t) = l .place t
+literal-place l (Event t) = l .event t
+
+-- the place that a mark tells
+abbrev pub place-told : Layout → ℕ → Place
+place-told l m = literal-place l (literal m)
 
 -- the place that reference n is labelled with
 unfoldable pub marked : Layout → List ℕ → ℕ → Option Place

@@ -9,7 +9,8 @@ use lib.ListN as list
 use Rattle.lines.specs.Line.{text}
 use Rattle.columns.specs.words.Columns.{columns}
 use Rattle.graphs.specs.Saved.{node-frame}
-use Rattle.framing.specs.words.Told.{literal, labels-told}
+use Rattle.marks.specs.words.Mark.{literal}
+use Rattle.framing.specs.words.Told.{labels-told}
 use Rattle.framing.proofs.Spelt.{answer-short, nodes-long-all, nodes-long-none, node-longer}
 use Rattle.framing.proofs.Spelt.{nodes-short}
 use Rattle.framing.proofs.nodes_length.Statement.{statement}

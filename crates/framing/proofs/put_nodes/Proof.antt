@@ -10,7 +10,8 @@ use Rattle.lines.specs.Line.{text}
 use Rattle.spelling.proofs.Putting.{Owed, owed-length}
 use Rattle.columns.specs.words.Columns.{columns}
 use Rattle.graphs.specs.Saved.{node-frame}
-use Rattle.framing.specs.words.Told.{literal, labels-told}
+use Rattle.marks.specs.words.Mark.{literal}
+use Rattle.framing.specs.words.Told.{labels-told}
 use Rattle.framing.proofs.Spelt.{answer-short, path-kept, nodes-owed, nodes-put, node-less}
 use Rattle.framing.proofs.Spelt.{nodes-short}
 use Rattle.framing.proofs.put_nodes.Statement.{statement}

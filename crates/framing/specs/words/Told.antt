@@ -1,12 +1,9 @@
 -- The graph that columns tell, whatever they hold.
-use Prim.Native.Nat.{ℕ, zero, suc, _-_, _/_, _%_, min}
+use Prim.Native.Nat.{ℕ, zero, suc, min}
 use mathlib.Core.List.{List, [], _∷_}
-use lib.Dec.{leb, eqb}
-use Rattle.lines.specs.Line.{choose}
 use Rattle.places.specs.Place.{Place}
 use Rattle.columns.specs.words.Columns.{Columns}
-use Rattle.places.specs.declared.Literal.{Literal}
-use Rattle.places.specs.declared.Literal.the-variants.{Left, Own, Event}
+use Rattle.marks.specs.words.Mark.{literal}
 use Rattle.rules.specs.Track.{Label}
 use Rattle.rules.specs.Run.{arc-room, meeting-room}
 use Rattle.control.specs.words.Words.{reference-room}
@@ -15,11 +12,6 @@ use Rattle.control.specs.words.Views.{pairs}
 use Rattle.graphs.specs.Graph.{Graph}
 use Rattle.links.specs.words.Columns.{at}
 use Rattle.links.specs.declared.GraphCounts.{GraphCounts}
-
--- the literal that a mark is of: 1 the left-hand side of definition 00, even ones a term's own, odd ones a prefix's event
-unfoldable pub literal : ℕ → Literal
-literal m =
-    choose (leb m 1) (Left 0) (choose (eqb (m % 2) 0) (Own ((m - 2) / 2)) (Event ((m - 3) / 2)))
 
 module _ (c : Columns) where
   -- the place that a mark tells

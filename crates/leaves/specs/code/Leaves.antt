@@ -5,6 +5,7 @@ use lib.Dec.{eqb}
 use Rattle.lines.specs.Line.{choose}
 use Rattle.kinds.specs.Kind as Kind
 use Rattle.plans.specs.words.Plan.{kind, operand, second, around}
+use Rattle.marks.specs.words.Mark.{own-mark, event-mark, start-mark}
 use Rattle.control.specs.words.Words.{node}
 use Rattle.control.specs.words.Control.{term, frame, resting, at-end, dead, beyond}
 use Rattle.rules.specs.declared.Event.{Event}
@@ -27,13 +28,6 @@ with-words d w g = record { taken = d; nodes = w; track = g }
 
 abbrev pub come : Event → ℕ → ℕ → ℕ → Tally → Taken
 come e n size at k = record { event = e; reference = n; size = size; at = at; tally = k }
-
--- the mark of a term's own literal, and of a prefix's event
-unfoldable pub own-mark : ℕ → ℕ
-own-mark t = capped (capped (t + t) + 2)
-
-unfoldable pub event-mark : ℕ → ℕ
-event-mark t = capped (capped (t + t) + 3)
 
 -- reference n is labelled, and gets an arc to a fresh one
 unfoldable pub on : Tally → Tally
@@ -108,5 +102,5 @@ end p n b at size k w g =
 unfoldable pub called : Tally → List ℕ → List ℕ → Done
 called k w g = with-words
     (come Tau (k .fresh) 1 0 (on k))
-    (standing (k .fresh) resting 0 0 (labelled 0 1 w))
+    (standing (k .fresh) resting 0 0 (labelled 0 start-mark w))
     (with-arc 0 (k .fresh) (k .arcs) g)

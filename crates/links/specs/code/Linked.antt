@@ -1,5 +1,5 @@
 -- Where the arcs of a graph in columns lead, by the marks of their ends: two words for each reference, one for each side.
-use Prim.Native.Nat.{ℕ, zero, suc, _+_, _*_, _-_, _/_, _%_}
+use Prim.Native.Nat.{ℕ, zero, suc, _+_, _*_}
 use mathlib.Core.Bool.{Bool, true, _&&_, _||_, not}
 use mathlib.Core.List.{List, [], _∷_, _++_}
 use lib.Dec.{leb, ltb, eqb}
@@ -7,6 +7,7 @@ use Rattle.lines.specs.Line.{choose}
 use Rattle.kinds.specs.Kind as Kind
 use Rattle.frames.specs.TableFrame.{term-room}
 use Rattle.columns.specs.words.Columns.{look}
+use Rattle.marks.specs.words.Mark.{term-of, is-own}
 use Rattle.control.specs.words.Words.{reference-room}
 use Rattle.rules.specs.Track.{Pair}
 use Rattle.links.specs.words.Columns.{put, at}
@@ -15,16 +16,11 @@ use Rattle.links.specs.words.Columns.{put, at}
 abbrev pub side-words : ℕ
 side-words = 16388
 
--- the number of the term that a mark is of, its own literal or its event
-unfoldable pub term-of : ℕ → ℕ
-term-of m = (m - 2) / 2
-
 -- a mark is an external choice's or a parallel's
 unfoldable pub splits : List ℕ → ℕ → Bool
 splits ks m =
-    leb 2 m
-    && (eqb (m % 2) 0
-    && (eqb (look term-room ks (term-of m)) Kind.external || eqb (look term-room ks (term-of m)) Kind.parallel))
+    is-own m
+    && (eqb (look term-room ks (term-of m)) Kind.external || eqb (look term-room ks (term-of m)) Kind.parallel)
 
 -- the side of term t that term u stands in, 0 where it stands in neither
 unfoldable pub side-of : List ℕ → ℕ → ℕ → ℕ

@@ -1,10 +1,11 @@
--- `shapes::of_one_event` meets its contract: a test that fails settles it. A mark of an event is at least 3.
--- Assumes nothing.
-use mathlib.Core.Path.{ap₂}
+-- `shapes::of_one_event` meets its contract: a test that fails settles it. Assumes nothing.
+use mathlib.Core.Path.{ap, ap₂, _∙_}
 use lib.Dec.{eqb}
 use borrow.Author.Needs.{needs}
+use Rattle.frames.specs.TableFrame.{term-room}
+use Rattle.columns.specs.words.Columns.{look}
 use Rattle.shapes.specs.code.Rules.{one-event}
-use Rattle.shapes.proofs.RuleTests.{rule-broken, rule-met, told-broken, told-met, event-least}
+use Rattle.shapes.proofs.RuleTests.{rule-broken, rule-met, told-broken, told-met}
 use Rattle.shapes.proofs.of_one_event.Statement.{statement}
 use Rattle.shapes.proofs.of_one_event.Tie as tie
 
@@ -25,24 +26,29 @@ returns-2 c =
     rule-met (told-met (first .before .is-event .ensures) (first .if1 .left))
     (rule-broken _ (told-broken (c .before .is-event2 .ensures) (c .if2 .taken)))
 
-event-at-requires : tie.Need-event-at-requires
-event-at-requires c κs =
-    let first = c .before .before in
-    event-least _ (told-met (first .before .is-event .ensures) (first .if1 .left))
+term-of-requires : tie.Need-term-of-requires
+term-of-requires c κs = search needs
 
-event-at-requires-2 : tie.Need-event-at-requires-2
-event-at-requires-2 c κs =
-    let second = c .before in
-    event-least _ (told-met (second .before .is-event2 .ensures) (second .if2 .left))
+set-of-requires : tie.Need-set-of-requires
+set-of-requires c κs = search needs
+
+term-of-requires-2 : tie.Need-term-of-requires-2
+term-of-requires-2 c κs = search needs
+
+set-of-requires-2 : tie.Need-set-of-requires-2
+set-of-requires-2 c κs = search needs
 
 returns-3 : tie.Need-returns-3
 unfolding one-event
 returns-3 c =
-    let second = c .before .before in
+    let read-first = c .before .before in
+    let second = read-first .before .before in
     let first = second .before .before in
     rule-met (told-met (first .before .is-event .ensures) (first .if1 .left))
     (rule-met (told-met (second .before .is-event2 .ensures) (second .if2 .left))
-    (ap₂ eqb (c .before .event-at .ensures) (c .event-at2 .ensures)))
+    (ap₂ eqb
+    (read-first .set-of .ensures ∙ ap (look term-room _) (read-first .before .term-of .ensures))
+    (c .set-of2 .ensures ∙ ap (look term-room _) (c .before .term-of2 .ensures))))
 
 pub of-one-event-spec : {M : Type 1} → statement M
 of-one-event-spec =
@@ -52,6 +58,8 @@ of-one-event-spec =
     returns
     is-event-requires-2
     returns-2
-    event-at-requires
-    event-at-requires-2
+    term-of-requires
+    set-of-requires
+    term-of-requires-2
+    set-of-requires-2
     returns-3)

@@ -1,11 +1,12 @@
 -- The reader's rules by marks, whatever the columns hold: of a graph in columns, and of a graph whose nodes have marks.
-use Prim.Native.Nat.{ℕ, _-_, _/_, _%_, min}
+use Prim.Native.Nat.{ℕ, min}
 use mathlib.Core.Bool.{Bool, _&&_, not}
 use mathlib.Core.List.{List}
 use lib.ListN.{length, replicate}
-use lib.Dec.{leb, eqb}
+use lib.Dec.{eqb}
 use Rattle.frames.specs.TableFrame.{term-room}
 use Rattle.columns.specs.words.Columns.{look}
+use Rattle.marks.specs.words.Mark.{is-event, term-of}
 use Rattle.rules.specs.Track.{Pair}
 use Rattle.rules.specs.Run.{arc-room, meeting-room}
 use Rattle.control.specs.words.Views.{arcs-of, meetings-of}
@@ -15,17 +16,10 @@ use Rattle.links.specs.words.Columns.{at}
 use Rattle.links.specs.code.Linked.{side-words, linked, all-fit}
 use Rattle.walks.specs.code.Walked.{walked, laid}
 
--- a mark is of a prefix's event
-unfoldable pub is-event : ℕ → Bool
-is-event m = leb 3 m && eqb (m % 2) 1
-
--- the event of such a mark
-unfoldable pub event-at : List ℕ → ℕ → ℕ
-event-at ps m = look term-room ps ((m - 3) / 2)
-
 -- two marks are of events, and of one
 unfoldable pub one-event : List ℕ → ℕ → ℕ → Bool
-one-event ps m n = is-event m && (is-event n && eqb (event-at ps m) (event-at ps n))
+one-event ps m n =
+    is-event m && (is-event n && eqb (look term-room ps (term-of m)) (look term-room ps (term-of n)))
 
 -- each of n nodes has a mark
 abbrev pub all-marked : List ℕ → ℕ → Bool

@@ -11,7 +11,8 @@ use Rattle.control.specs.words.Sums.{capped}
 use Rattle.weights.specs.code.Rules.{stays, shown}
 use Rattle.drawing.specs.code.Drawing as Marks
 use Rattle.drawing.specs.code.Drawing.{labelled, standing, one-arc, drawn, with-arc, met-all}
-use Rattle.leaves.specs.code.Leaves.{Done, with-words, come, own-mark, settled}
+use Rattle.marks.specs.words.Mark.{own-mark}
+use Rattle.leaves.specs.code.Leaves.{Done, with-words, come, settled}
 use Rattle.drawing.specs.declared.Tally.{Tally}
 use Rattle.leaves.specs.declared.Taken.{Taken}
 
