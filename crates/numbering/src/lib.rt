@@ -85,7 +85,6 @@ pub fn number(
         pending,
     );
     *sides = [0u16; SIDE_WORDS];
-    *pending = [0u16; SIDE_WORDS];
     *numbers = [0u16; REFERENCES];
     *spare = [0u16; TRACK_WORDS];
     GraphCounts {
@@ -96,7 +95,7 @@ pub fn number(
 }
 
 // Puts the numbers of so many pairs of a track, from a word on, to the same words of another, sorted; the lower one first
-// where either order will do. Tells how many there are. The last two are scratch.
+// where either order will do. Tells how many there are. The last two are scratch, and `starts` is all 0 afterwards.
 fn number_pairs(
     nodes: usize,
     base: usize,
@@ -116,6 +115,7 @@ fn number_pairs(
     ensures { λ _. ⌜ now (graph .exit) ≡ sets (now (graph .entry)) base (flat (sorted nodes
         (renumbered either (now (numbers .entry)) (pairs base (now (track .entry)) 0 count)))) ⌝ }
     ensures { λ _. ⌜ length (now (spare .exit)) ≡ 28672 ⌝ }
+    ensures { λ _. ⌜ now (starts .exit) ≡ replicate 16388 0 ⌝ }
 {
     let kept = renumber(base, count, either, track, numbers, graph);
     sort(nodes, base, kept, graph, spare, starts);

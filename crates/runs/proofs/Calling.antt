@@ -19,13 +19,15 @@ use Rattle.rules.specs.Step.{Stepped}
 use Rattle.rules.specs.Run.{start, stands}
 use Rattle.rules.proofs.Marked.{one-same}
 use Rattle.rules.proofs.Holding.{held}
+use Rattle.marks.specs.words.Mark.{start-mark}
+use Rattle.marks.proofs.Laws.{low-read}
 use Rattle.plans.specs.words.Plan.{Layout}
 use Rattle.control.specs.words.Control.{label, state, resting, Untouched}
 use Rattle.control.specs.words.Control as Control
 use Rattle.control.proofs.Capped.{capped-small}
 use Rattle.weighing.proofs.Told.{From, from-at}
 use Rattle.drawing.specs.code.Drawing.{one-node, one-arc, drawn, labelled, standing}
-use Rattle.control.specs.words.Views.{place-told, marked}
+use Rattle.control.specs.words.Views.{literal-place, place-told, marked}
 use Rattle.leaves.specs.code.Leaves.{called, on}
 use Rattle.step_laws.proofs.NodeViews.{standing-elsewhere, labelled-whole, labelled-elsewhere}
 use Rattle.step_laws.proofs.Writing.{Writes}
@@ -83,14 +85,15 @@ module _ (l : Layout) (p x : List ℕ) (ts : List Term) (count : ℕ) (ds w g c 
 
   call-writes : Writes l (λ j. held j 0 main) (run-words w g c) (on-to 0 1 resting 0 0 (run-words w g c))
       (one-on 0 left-side 1)
-  unfolding tally-of held place-told lookup
+  unfolding tally-of held literal-place lookup
   call-writes =
       let t = holds .tells in
       let own : ℕ → ℕ = λ j. held j 0 main in
       subst (λ m. Writes l own (run-words w g c) (on-to 0 1 resting 0 0 (run-words w g c)) (one-on 0 left-side m))
       (t .fresh-is)
       (on-writes l own (run-words w g c) start-clean 0 1 left-side (omega (arith, t .fresh-is)) (omega (arith, t .fresh-is))
-      (unlabelled l w 0 (t .labels-told 0)) (omega arith) (λ e. omega arith) refl (omega (arith, t .nodes-are))
+      (unlabelled l w 0 (t .labels-told 0)) (omega arith) (λ e. omega arith)
+      (ap (literal-place l) (low-read start-mark (omega arith))) (omega (arith, t .nodes-are))
       (omega (arith, t .arcs-are)) (λ j h e q. omega (arith, e, one-same j 0 q)) resting 0 0)
 
   -- reference 0 rests still

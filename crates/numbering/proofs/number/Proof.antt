@@ -42,14 +42,14 @@ number-pairs-requires-2 c κs =
     let blank = length-replicate {A = ℕ} 28672 0 in (
       (omega (arith, nodes), omega (arith, counted .at-most2 .ensures), omega (arith, counted .at-most2 .ensures)),
       (
-        (put-long 0 (replicate 28672 0) _ _ blank (arcs .1 .0), arcs .1 .1),
+        (put-long 0 (replicate 28672 0) _ _ blank (arcs .1 .0), arcs .1 .1 .0),
         nodes-above _ _ _ (numbered .0) _ (numbered .1 .0),
       ),
     )
 
 returns : tie.Need-returns
 returns c =
-    let meetings = c .before .before .before .before in
+    let meetings = c .before .before .before in
     let arcs = meetings .before .before .before .before .before .before in
     let walked = arcs .before .before .before .before .before .before .before .before in
     let linked = walked .before .before .before .before .before in
@@ -59,7 +59,8 @@ returns c =
     (arcs .number-pairs .ensures .0, arcs .number-pairs .ensures .1 .0)
     (meetings .before .before .before .before .before .at-most2 .ensures)
     (meetings .number-pairs2 .ensures .0, meetings .number-pairs2 .ensures .1 .0) in
-    (done .0, (done .1 .0, (done .1 .1, (refl, (refl, (refl, refl))))))
+    let pending-clear = meetings .number-pairs2 .ensures .1 .1 .1 in
+    (done .0, (done .1 .0, (done .1 .1, (refl, (pending-clear, (refl, refl))))))
 
 pub number-spec : {M : Type 1} → statement M
 number-spec =

@@ -2,6 +2,7 @@
 -- Assumes nothing.
 use native.Mathlib.Omega.{arith}
 use borrow.Author.Needs.{needs}
+use Rattle.links.proofs.Listed.{put-long}
 use Rattle.numbering.proofs.Assembled.{kept-fits, kept-sorted}
 use Rattle.numbering.proofs.number_pairs.Statement.{statement}
 use Rattle.numbering.proofs.number_pairs.Tie as tie
@@ -23,7 +24,8 @@ returns c =
     let s = put .before .before in
     let ordered = kept-sorted _ _ _ _ _ _ _ _ _ (s .pre .1 .1) (s .pre .0 .2) (s .pre .1 .0 .0)
     (put .renumber .ensures) _ (c .sort .ensures .0) in
-    (ordered .0, (ordered .1, c .sort .ensures .1))
+    let spare-long = put-long _ _ _ _ (s .pre .1 .0 .1) (c .sort .ensures .1 .0) in
+    (ordered .0, (ordered .1, (spare-long, c .sort .ensures .1 .1)))
 
 pub number-pairs-spec : {M : Type 1} → statement M
 number-pairs-spec = tie.close (tie.spec renumber-requires sort-requires returns)
