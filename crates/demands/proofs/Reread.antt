@@ -10,7 +10,7 @@ use native.Mathlib.Omega.{arith}
 use lib.ListN.{length, replicate, length-replicate}
 use lib.Seq.{sets}
 use lib.Dec.{ltb, eqb}
-use borrow.Author.Tests.{eqb-false, lt-ltb}
+use borrow.Author.Tests.{lt-ltb}
 use Rattle.lines.proofs.Digits.{both}
 use Rattle.tables.specs.Table.{Sofar, accepted, judged}
 use Rattle.tables.specs.words.Columns.{kinds, owners, afters, roots, Table-of}

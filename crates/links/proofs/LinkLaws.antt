@@ -1,7 +1,7 @@
 -- Where an arc leads, one law for each way that the code tells it, and the linking of the arcs from some number
 -- on: a turn links one of them, and what is done, with the rest of the arcs, is the whole answer. Assumes
 -- nothing.
-use Prim.Native.Nat.{ℕ, suc, _+_, _*_, _-_, _%_, _≤_, _<_}
+use Prim.Native.Nat.{ℕ, suc, _+_, _*_, _-_, _≤_, _<_}
 use mathlib.Core.Path.{_≡_, refl, sym, _∙_}
 use mathlib.Core.Bool.{Bool, true, false, _&&_, _||_, not, and-true, and-false, or-true}
 use mathlib.Core.List.{List, _∷_}

@@ -6,8 +6,6 @@ use mathlib.Core.Bool.{Bool, true, false}
 use native.Mathlib.Omega.{arith}
 use lib.Dec.{ltb, eqb}
 use borrow.Author.Tests.{lt-ltb, le-ltb, le-leb, lt-leb, eq-eqb, ne-eqb, ltb-true, ltb-false, eqb-true, eqb-false}
-use Rattle.lines.specs.Line.{choose}
-use Rattle.places.specs.declared.Literal.{Literal}
 use Rattle.places.specs.declared.Literal.the-variants.{Left, Own, Event}
 use Rattle.marks.specs.words.Mark.{own-mark, event-mark, term-of, is-own, is-event, literal}
 

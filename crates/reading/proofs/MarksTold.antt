@@ -1,7 +1,7 @@
 -- What the marks of nodes in number order tell, where each has a place that is its: the place, and of a prefix's event the
 -- event. A mark is 0 where there is no node, 1 at the left-hand side of definition 00, and else that of the literal at its
 -- place, whose number the layout and the columns have there. Assumes nothing.
-use Prim.Native.Nat.{ℕ, zero, suc, _+_, _*_, _-_, _/_, _%_, _≤_, _<_}
+use Prim.Native.Nat.{ℕ, zero, suc, _+_, _*_, _≤_, _<_}
 use mathlib.Core.Path.{_≡_, refl, sym, ap, ap₂, _∙_}
 use mathlib.Core.Bool.{Bool, true, false, _&&_}
 use mathlib.Core.List.{List, [], _∷_}
@@ -10,8 +10,8 @@ use native.Mathlib.Omega.{arith}
 use native.Mathlib.Nat.{add-zero, zero-add}
 use lib.ListN.{length, getD, getElem?, replicate, List·getD-eq-default}
 use lib.Seq.{sets}
-use lib.Dec.{eqb, ltb, leb}
-use borrow.Author.Tests.{eqb-true, eq-eqb, ne-eqb, ltb-true, ltb-false, le-leb}
+use lib.Dec.{eqb, ltb}
+use borrow.Author.Tests.{eqb-true, eq-eqb, ne-eqb, ltb-true, ltb-false}
 use Rattle.lines.specs.Line.{choose}
 use Rattle.lines.proofs.Digits.{both}
 use Rattle.frames.specs.TableFrame.{term-room, definition-room}
@@ -46,7 +46,7 @@ use Rattle.walks.specs.code.Walked.{laid}
 use Rattle.walks.proofs.Telling.{mark-told, Telling}
 use Rattle.finding.specs.code.Found.{find, mark-of, marks-of}
 use Rattle.finding.proofs.FoundLaws.{mark-of-literal, marks-length, listed, find-literal, DefinitionsBelow}
-use Rattle.shapes.specs.code.Rules.{one-event}
+use Rattle.shape_rules.specs.code.Tests.{one-event}
 
 -- the event that a mark tells, none where it is no event's
 unfoldable event-told : List ℕ → ℕ → Option ℕ

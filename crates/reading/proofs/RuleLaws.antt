@@ -30,8 +30,9 @@ use Rattle.walks.proofs.Telling.{Telling}
 use Rattle.walks.proofs.LinkTold.{all-fit-told, walked-told}
 use Rattle.finding.specs.code.Found.{marks-of}
 use Rattle.finding.proofs.FoundLaws.{DefinitionsBelow, marks-shaped}
-use Rattle.shapes.specs.code.Rules.{as-walked, joins-events, shaped}
-use Rattle.shapes.proofs.RuleTests.{and-where}
+use Rattle.shape_rules.specs.code.Tests.{joins-events}
+use Rattle.shape_rules.proofs.RuleTests.{and-where}
+use Rattle.shapes.specs.code.Rules.{as-walked, shaped}
 use Rattle.reading.specs.code.Outcome.{outcome}
 use Rattle.reading.specs.code.Outcome as Outcome
 use Rattle.reading.proofs.MarksTold.{marks-telling, events-told}

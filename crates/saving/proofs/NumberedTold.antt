@@ -1,7 +1,7 @@
 -- The columns of a graph by its numbers tell its canonical graph. The walk over the columns is the graph's,
 -- so the numbers are; sorted pairs ascend and join the numbers that the canonical ones join, so they are
 -- those; and marks and words are read back as they were put. Assumes nothing.
-use Prim.Native.Nat.{ℕ, zero, suc, _+_, _-_, _/_, _%_, min, _≤_, _<_}
+use Prim.Native.Nat.{ℕ, zero, suc, _+_, _-_, min, _≤_, _<_}
 use mathlib.Core.Path.{_≡_, refl, sym, ap, ap₂, _∙_}
 use mathlib.Core.Bool.{Bool, true, false, _&&_, _||_, not}
 use mathlib.Core.List.{List, [], _∷_, _++_, map}
@@ -11,8 +11,8 @@ use native.Mathlib.Nat.{zero-add, add-zero, add-suc, suc-add}
 use lib.ListN.{length, getD, getElem?, replicate, drop, length-map, length-replicate, getD-replicate}
 use lib.ListN.{List·getD-append, List·getD-eq-default}
 use lib.Seq.{sets, sets-eq, getD-append-add, getD-drop}
-use lib.Dec.{leb, ltb, eqb}
-use borrow.Author.Tests.{eqb-true, eqb-false, ltb-true, ltb-false, le-leb, lt-leb}
+use lib.Dec.{ltb, eqb}
+use borrow.Author.Tests.{ltb-true, ltb-false}
 use Rattle.lines.specs.Line.{choose}
 use Rattle.tables.specs.Table.{Sofar, accepted, judged}
 use Rattle.tables.specs.words.Columns.{kinds, owners, afters, roots}

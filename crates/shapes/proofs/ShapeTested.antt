@@ -21,8 +21,9 @@ use Rattle.links.specs.words.Columns.{at}
 use Rattle.links.specs.code.Linked.{side-words, linked}
 use Rattle.walks.specs.code.Walked.{walked, numbers, laid}
 use Rattle.walks.proofs.LinkedWords.{marked, marked-inside}
-use Rattle.shapes.specs.code.Rules.{all-marked, meetings-fit, sides-fit, as-walked, has-shape, shaped}
-use Rattle.shapes.proofs.RuleTests.{and-where}
+use Rattle.shape_rules.specs.code.Tests.{all-marked, meetings-fit}
+use Rattle.shape_rules.proofs.RuleTests.{and-where}
+use Rattle.shapes.specs.code.Rules.{sides-fit, as-walked, has-shape, shaped}
 use Rattle.shapes.proofs.WalkOrder.{every-number, Ordered, order-tested, walked-distinct}
 
 -- nodes that have marks are references

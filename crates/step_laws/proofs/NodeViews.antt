@@ -1,14 +1,14 @@
 -- What each word of each reference is after what a step writes: the words that it puts are the values, every
 -- other word is as before, and nothing that a labelled reference keeps changes. Each is some puts in a row. And
 -- what marks tell: a term's own mark the term's place, and an event's mark the event's. Assumes nothing.
-use Prim.Native.Nat.{ℕ, _+_, _-_, _/_, _%_, _≤_, _<_}
+use Prim.Native.Nat.{ℕ, _+_, _≤_, _<_}
 use mathlib.Core.Path.{_≡_, refl, ap, sym, _∙_}
 use mathlib.Core.Bool.{Bool, true, false}
 use mathlib.Core.List.{List}
 use mathlib.Core.Option.{none, some}
 use native.Mathlib.Omega.{arith}
-use lib.Dec.{eqb, ltb}
-use borrow.Author.Tests.{eqb-true, eqb-false, eq-eqb, ne-eqb, le-ltb, ltb-false}
+use lib.Dec.{eqb}
+use borrow.Author.Tests.{eqb-true, eqb-false, eq-eqb, ne-eqb}
 use Rattle.lines.specs.Line.{choose}
 use Rattle.marks.specs.words.Mark.{own-mark, event-mark}
 use Rattle.marks.proofs.Laws.{own-small, own-is, event-is, own-read, event-read}

@@ -1,7 +1,7 @@
 -- What the marks of a graph in columns tell of a checked table. A mark is the start's or that of a literal of one
 -- definition's tree, its own or its event; its number lies in the run of a side exactly where its path begins with
 -- that side's, so columns tell which literals split and which side of a literal another stands on. Assumes nothing.
-use Prim.Native.Nat.{ℕ, zero, suc, _+_, _*_, _-_, _/_, _%_, _≤_, _<_}
+use Prim.Native.Nat.{ℕ, zero, suc, _+_, _*_, _≤_, _<_}
 use mathlib.Core.Path.{_≡_, refl, sym, ap, subst, _∙_}
 use mathlib.Core.Bool.{Bool, true, false, _&&_, _||_, not, and-false}
 use mathlib.Core.List.{List, [], _∷_, _++_, append-nil}
@@ -13,7 +13,6 @@ use native.Mathlib.Numerals.{add-one}
 use lib.ListN.{length, getD, getElem?}
 use lib.Dec.{leb, ltb, eqb}
 use borrow.Author.Tests.{eqb-true, eqb-false, ne-eqb, ltb-true, ltb-false, le-ltb, leb-true, leb-false}
-use borrow.Author.Tests.{le-leb}
 use Rattle.lines.specs.Line.{choose}
 use Rattle.kinds.specs.Kind as Kind
 use Rattle.frames.specs.TableFrame.{term-room, definition-room}
@@ -29,7 +28,6 @@ use Rattle.columns.specs.words.Columns.{look, columns}
 use Rattle.columns.proofs.Laws.{look-in}
 use Rattle.places.proofs.Sides.{Side, first, second, side-inside}
 use Rattle.places.proofs.Laws.{own-found, event-found, left-apart, holds-at, Defined, checked-roots}
-use Rattle.marks.specs.words.Mark.{term-of}
 use Rattle.marks.proofs.Laws.{Read, unmarked, at-start, at-own, at-event, read, low-read, own-read, event-read}
 use Rattle.marks.proofs.Laws.{low-tested, own-tested, event-tested, term-is}
 use Rattle.rules.specs.Track.{lookup}

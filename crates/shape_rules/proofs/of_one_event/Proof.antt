@@ -1,13 +1,13 @@
--- `shapes::of_one_event` meets its contract: a test that fails settles it. Assumes nothing.
+-- `shape_rules::of_one_event` meets its contract: a test that fails settles it. Assumes nothing.
 use mathlib.Core.Path.{ap, ap₂, _∙_}
 use lib.Dec.{eqb}
 use borrow.Author.Needs.{needs}
 use Rattle.frames.specs.TableFrame.{term-room}
 use Rattle.columns.specs.words.Columns.{look}
-use Rattle.shapes.specs.code.Rules.{one-event}
-use Rattle.shapes.proofs.RuleTests.{rule-broken, rule-met, told-broken, told-met}
-use Rattle.shapes.proofs.of_one_event.Statement.{statement}
-use Rattle.shapes.proofs.of_one_event.Tie as tie
+use Rattle.shape_rules.specs.code.Tests.{one-event}
+use Rattle.shape_rules.proofs.RuleTests.{rule-broken, rule-met, told-broken, told-met}
+use Rattle.shape_rules.proofs.of_one_event.Statement.{statement}
+use Rattle.shape_rules.proofs.of_one_event.Tie as tie
 
 is-event-requires : tie.Need-is-event-requires
 is-event-requires c κs = search needs

@@ -1,21 +1,23 @@
--- `shapes::in_order` meets its contract. The loop's invariant: all nodes so far have their numbers, so that the rest
--- tells of all. The measure is how many nodes are left. Assumes nothing.
-use Prim.Native.Nat.{_+_, _-_}
+-- `shape_rules::all_marked` meets its contract. The loop's invariant: all nodes so far have marks, so that the rest tells of
+-- all. The measure is how many nodes are left. Assumes nothing.
+use Prim.Native.Nat.{_-_}
+use mathlib.Core.Path.{ap}
+use mathlib.Core.Bool.{not}
 use lib.Dec.{eqb}
 use borrow.Author.Needs.{needs}
 use native.Mathlib.Omega.{arith}
 use Rattle.graphs.specs.Shape.{from-on}
 use Rattle.links.specs.words.Columns.{at}
-use Rattle.shapes.proofs.RuleTests.{told-equal, told-other, numbers-listed, Passed, none-tested}
-use Rattle.shapes.proofs.RuleTests.{test-passed, test-failed, all-passed}
-use Rattle.shapes.proofs.in_order.Statement.{statement}
-use Rattle.shapes.proofs.in_order.Tie as tie
+use Rattle.shape_rules.proofs.RuleTests.{told-equal, told-other, numbers-listed, Passed, none-tested}
+use Rattle.shape_rules.proofs.RuleTests.{test-passed, test-failed, all-passed}
+use Rattle.shape_rules.proofs.all_marked.Statement.{statement}
+use Rattle.shape_rules.proofs.all_marked.Tie as tie
 
 abbrev Inv-loop : tie.InvT-loop
-Inv-loop nodes numbers k₀ k = Passed (λ j. eqb (at numbers j) (j + 1)) from-on nodes k
+Inv-loop nodes labels k₀ k = Passed (λ j. not (eqb (at labels j) 0)) from-on nodes k
 
 abbrev μ-loop : tie.MeasureT-loop
-μ-loop nodes numbers k₀ k = nodes - k
+μ-loop nodes labels k₀ k = nodes - k
 
 loop-holds : tie.Need-loop-holds Inv-loop μ-loop
 loop-holds c = none-tested _ from-on _
@@ -23,14 +25,11 @@ loop-holds c = none-tested _ from-on _
 reference-word-requires : tie.Need-reference-word-requires Inv-loop μ-loop
 reference-word-requires c κs = search needs
 
-add-if1 : tie.Need-add-if1 Inv-loop μ-loop
-add-if1 c = omega arith
-
 returns : tie.Need-returns Inv-loop μ-loop
 returns c =
     let tested = c .before .before in
     test-failed _ numbers-listed _ _ (tested .before .loop .inv) (tested .loop-test .taken)
-    (told-other (c .before .reference-word .ensures) _ (c .if1 .taken))
+    (ap not (told-equal (c .before .reference-word .ensures) 0 (c .if1 .taken)))
 
 add-k : tie.Need-add-k Inv-loop μ-loop
 add-k c = omega arith
@@ -42,20 +41,19 @@ loop-again : tie.Need-loop-again Inv-loop μ-loop
 loop-again c =
     let tested = c .before .before in
     test-passed _ numbers-listed _ _ (tested .before .loop .inv) (tested .loop-test .taken)
-    (told-equal (c .before .reference-word .ensures) _ (c .if1 .left))
+    (ap not (told-other (c .before .reference-word .ensures) 0 (c .if1 .left)))
 
 returns-2 : tie.Need-returns-2 Inv-loop μ-loop
 returns-2 c = all-passed _ numbers-listed _ _ (c .before .loop .inv) (c .loop-test .left)
 
-pub in-order-spec : {M : Type 1} → statement M
-in-order-spec =
+pub all-marked-spec : {M : Type 1} → statement M
+all-marked-spec =
     tie.close
     (tie.spec
     Inv-loop
     μ-loop
     loop-holds
     reference-word-requires
-    add-if1
     returns
     add-k
     loop-less

@@ -8,15 +8,14 @@ use mathlib.Core.List.{List, [], _∷_}
 use native.Mathlib.Omega.{arith}
 use native.Mathlib.Nat.{sub-zero}
 use native.Mathlib.Numerals.{add-one}
-use lib.Dec.{leb, ltb, eqb}
-use borrow.Author.Tests.{leb-true, eq-eqb, ne-eqb, not-true, not-false}
-use Rattle.lines.proofs.Digits.{both}
+use lib.Dec.{ltb, eqb}
+use borrow.Author.Tests.{eq-eqb, ne-eqb, not-true, not-false}
 use Rattle.control.specs.words.Words.{track-word}
 use Rattle.rules.specs.Track.{Pair, pair}
 use Rattle.control.specs.words.Views.{pairs}
 use Rattle.graphs.specs.Shape.{every, before, before-first, ascends, upward, from-on}
 use Rattle.links.specs.words.Columns.{at}
-use Rattle.shapes.specs.code.Rules.{one-event}
+use Rattle.shape_rules.specs.code.Tests.{one-event}
 
 -- rules one behind the other: one that is not met settles it, and one that is met leaves it to the rest
 pub rule-broken : {rule : Bool} (rest : Bool) → rule ≡ false → false ≡ (rule && rest)

@@ -1,15 +1,15 @@
--- `shapes::join_events` meets its contract. The loop's invariant: all meetings so far are good ones, so that the rest
+-- `shape_rules::join_events` meets its contract. The loop's invariant: all meetings so far are good ones, so that the rest
 -- tells of all. The measure is how many meetings are left. Assumes nothing.
 use Prim.Native.Nat.{_-_}
 use mathlib.Core.Path.{_∙_}
 use borrow.Author.Needs.{needs}
 use native.Mathlib.Omega.{arith}
 use Rattle.control.specs.words.Views.{pairs}
-use Rattle.shapes.proofs.RuleTests.{told-broken, told-met, pairs-listed, Passed, none-tested}
-use Rattle.shapes.proofs.RuleTests.{test-passed, test-failed, all-passed, every-both, meets-well}
-use Rattle.shapes.proofs.RuleTests.{meeting-told}
-use Rattle.shapes.proofs.join_events.Statement.{statement}
-use Rattle.shapes.proofs.join_events.Tie as tie
+use Rattle.shape_rules.proofs.RuleTests.{told-broken, told-met, pairs-listed, Passed, none-tested}
+use Rattle.shape_rules.proofs.RuleTests.{test-passed, test-failed, all-passed, every-both, meets-well}
+use Rattle.shape_rules.proofs.RuleTests.{meeting-told}
+use Rattle.shape_rules.proofs.join_events.Statement.{statement}
+use Rattle.shape_rules.proofs.join_events.Tie as tie
 
 abbrev Inv-loop : tie.InvT-loop
 Inv-loop meetings labels graph payloads i₀ i = Passed (meets-well payloads labels) (pairs 16384 graph) meetings i

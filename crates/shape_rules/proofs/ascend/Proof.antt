@@ -1,11 +1,11 @@
--- `shapes::ascend` meets its contract. The loop's invariant: all pairs so far ascend, so that the last of them and the
+-- `shape_rules::ascend` meets its contract. The loop's invariant: all pairs so far ascend, so that the last of them and the
 -- rest tell of all. The measure is how many pairs are left. Assumes nothing.
 use Prim.Native.Nat.{_-_}
 use borrow.Author.Needs.{needs}
 use native.Mathlib.Omega.{arith}
-use Rattle.shapes.proofs.RuleTests.{Ascended, none-compared, all-ascend, pair-falls, pair-rises}
-use Rattle.shapes.proofs.ascend.Statement.{statement}
-use Rattle.shapes.proofs.ascend.Tie as tie
+use Rattle.shape_rules.proofs.RuleTests.{Ascended, none-compared, all-ascend, pair-falls, pair-rises}
+use Rattle.shape_rules.proofs.ascend.Statement.{statement}
+use Rattle.shape_rules.proofs.ascend.Tie as tie
 
 abbrev Inv-loop : tie.InvT-loop
 Inv-loop base count graph i₀ i = Ascended base graph count i

@@ -1,0 +1,2 @@
+-- Laws of this crate: `RuleTests`, rules tested one item after the other.
+pub mod RuleTests

@@ -1,0 +1,2 @@
+-- Mirrors of code: `Tests`, the rules by marks.
+pub mod Tests
