@@ -2,6 +2,7 @@
 use frames::DEFINITION_ROOM;
 use frames::TERM_ROOM;
 ghost use mathlib.Core.Path.{_≡_};
+ghost use Rattle.frames.specs.TableFrame.{term-room, definition-room};
 ghost use Rattle.columns.specs.words.Columns.{look};
 
 // A column for each thing that is known of a term, by its number in preorder over the whole table: its kind, its payload, the
@@ -18,38 +19,50 @@ pub type Roots = [u16; DEFINITION_ROOM];
 
 // The kind of a term.
 pub fn kind_of(n: usize, kinds: &Kinds) -> u8
-    ensures { λ r. ⌜ r ≡ look 1024 (now (kinds .entry)) n ⌝ }
+    ensures { λ r. ⌜ r ≡ look term-room (now (kinds .entry)) n ⌝ }
 {
     if n < TERM_ROOM { kinds[n] } else { 0 }
 }
 
 // The set of a term, which is its payload.
 pub fn set_of(t: usize, sets: &Payloads) -> u64
-    ensures { λ r. ⌜ r ≡ look 1024 (now (sets .entry)) t ⌝ }
+    ensures { λ r. ⌜ r ≡ look term-room (now (sets .entry)) t ⌝ }
 {
     if t < TERM_ROOM { sets[t] } else { 0 }
 }
 
 // The definition that a term stands in.
 pub fn owner_of(n: usize, owners: &Owners) -> u8
-    ensures { λ r. ⌜ r ≡ look 1024 (now (owners .entry)) n ⌝ }
+    ensures { λ r. ⌜ r ≡ look term-room (now (owners .entry)) n ⌝ }
 {
     if n < TERM_ROOM { owners[n] } else { 0 }
 }
 
-// The number of the term behind a term and its subterms.
+// The number of the term behind a term and its subterms, as a number and as its word.
 pub fn after_of(n: usize, after: &After) -> usize
-    ensures { λ r. ⌜ r ≡ look 1024 (now (after .entry)) n ⌝ }
+    ensures { λ r. ⌜ r ≡ look term-room (now (after .entry)) n ⌝ }
 {
-    if n < TERM_ROOM { wide(after[n]) } else { 0 }
+    wide(after_word(n, after))
 }
 
-// The number of a definition's root.
+pub fn after_word(n: usize, after: &After) -> u16
+    ensures { λ r. ⌜ r ≡ look term-room (now (after .entry)) n ⌝ }
+{
+    if n < TERM_ROOM { after[n] } else { 0 }
+}
+
+// The number of a definition's root, as a number and as its word.
 pub fn root_of(definition: usize, roots: &Roots) -> usize
-    ensures { λ r. ⌜ r ≡ look 64 (now (roots .entry)) definition ⌝ }
+    ensures { λ r. ⌜ r ≡ look definition-room (now (roots .entry)) definition ⌝ }
+{
+    wide(root_word(definition, roots))
+}
+
+pub fn root_word(definition: usize, roots: &Roots) -> u16
+    ensures { λ r. ⌜ r ≡ look definition-room (now (roots .entry)) definition ⌝ }
 {
     if definition < DEFINITION_ROOM {
-        wide(roots[definition])
+        roots[definition]
     } else {
         0
     }

@@ -19,7 +19,7 @@ use Rattle.columns.specs.words.Columns.{Columns, columns, all-columns, read-col
 use Rattle.marks.specs.words.Mark.{literal}
 use Rattle.rules.specs.Track.{Label, lookup}
 use Rattle.rules.specs.Run.{State, arc-room, meeting-room}
-use Rattle.control.specs.words.Words.{reference-room, track-words}
+use Rattle.control.specs.words.Words.{reference-room, track-words, meetings-from}
 use Rattle.control.specs.words.Views.{pairs}
 use Rattle.graphs.specs.Graph.{Graph, graph-of, labelled}
 use Rattle.graphs.specs.Walk.{order}
@@ -77,7 +77,7 @@ module _ (text : List ℕ) (t : Sofar) (q : judged text ≡ accepted t) (lines :
   zeros = replicate track-words 0
 
   abbrev words : List ℕ
-  words = sets (sets zeros 0 (flat (g .arcs))) 16384 (flat (g .meetings))
+  words = sets (sets zeros 0 (flat (g .arcs))) meetings-from (flat (g .meetings))
 
   shape : shaped ts g ≡ true
   shape = read-parts ts (parsed (length ts) lines) g is .1
@@ -139,7 +139,7 @@ module _ (text : List ℕ) (t : Sofar) (q : judged text ≡ accepted t) (lines :
       arcs-back zeros long (g .arcs) (g .meetings) (fits .arcs-room) (fits .meetings-room) _
       (omega (arith, fits .arcs-room))
 
-  meetings-are : pairs 16384 words 0 (min (length (g .meetings)) meeting-room) ≡ g .meetings
+  meetings-are : pairs meetings-from words 0 (min (length (g .meetings)) meeting-room) ≡ g .meetings
   meetings-are =
       meetings-back zeros long (g .arcs) (g .meetings) (fits .arcs-room) (fits .meetings-room) _
       (omega (arith, fits .meetings-room))

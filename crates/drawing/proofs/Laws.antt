@@ -8,7 +8,7 @@ use mathlib.Core.Logic.{_⊎_, inl, inr}
 use native.Mathlib.Omega.{arith}
 use native.Mathlib.Numerals.{add-one}
 use borrow.Author.Tests.{lt-ltb, le-ltb}
-use Rattle.control.specs.words.Words.{put, track-word, put-track, event-node}
+use Rattle.control.specs.words.Words.{put, track-word, put-track, event-node, event-nodes-from, meetings-from}
 use Rattle.control.specs.words.Sums.{capped}
 use Rattle.looking.specs.code.Looking.{leads}
 use Rattle.drawing.specs.code.Drawing.{one-node, one-arc, one-meeting, one-met, drawn, labelled}
@@ -74,8 +74,8 @@ module _ (m n i : ℕ) (g : List ℕ) where
   unfolding with-arc
   arc-left-out full = simp (le-ltb i 8192 full)
 
-  pub meeting-put : i < 4096 → (h j : List ℕ) → h ≡ put-track g (16384 + 2 * i) m
-      → j ≡ put-track h (16384 + 2 * i + 1) n → j ≡ with-meeting m n i g
+  pub meeting-put : i < 4096 → (h j : List ℕ) → h ≡ put-track g (meetings-from + 2 * i) m
+      → j ≡ put-track h (meetings-from + 2 * i + 1) n → j ≡ with-meeting m n i g
   unfolding with-meeting
   meeting-put room h j p q = rw (q, p) (simp (lt-ltb i 4096 room))
 
@@ -84,7 +84,7 @@ module _ (m n i : ℕ) (g : List ℕ) where
   meeting-left-out full = simp (le-ltb i 4096 full)
 
 module _ (i : ℕ) (g : List ℕ) where
-  pub met-put : (n : ℕ) → i < 4096 → (h : List ℕ) → h ≡ put-track g (24576 + i) n → h ≡ with-met n i g
+  pub met-put : (n : ℕ) → i < 4096 → (h : List ℕ) → h ≡ put-track g (event-nodes-from + i) n → h ≡ with-met n i g
   unfolding with-met
   met-put n room h p = rw p (simp (lt-ltb i 4096 room))
 
@@ -92,7 +92,7 @@ module _ (i : ℕ) (g : List ℕ) where
   unfolding with-met
   met-left-out n full = simp (le-ltb i 4096 full)
 
-  pub node-read : i < 4096 → (m : ℕ) → m ≡ track-word g (24576 + i) → m ≡ event-node i g
+  pub node-read : i < 4096 → (m : ℕ) → m ≡ track-word g (event-nodes-from + i) → m ≡ event-node i g
   unfolding event-node
   node-read room m p = rw p (simp (lt-ltb i 4096 room))
 

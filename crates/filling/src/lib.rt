@@ -5,9 +5,9 @@ use columns::Kinds;
 use columns::Owners;
 use columns::Payloads;
 use columns::Roots;
+use columns::after_word;
 use frames::Frame;
 use frames::Seen;
-use frames::TERM_ROOM;
 use kinds::subterms;
 use numbers::wide;
 ghost use mathlib.Core.Path.{_≡_};
@@ -15,8 +15,9 @@ ghost use Prim.Native.Nat.{_+_, _-_, _<_, _≤_};
 ghost use Rattle.filling.specs.code.Taking.{Ready, topmost, owed, pushed, started, seen-then};
 ghost use Rattle.filling.specs.code.Taking.{waiting-then};
 ghost use Rattle.filling.specs.code.Taking.{roots-then, column-then};
-ghost use lib.ListN.{length, getD};
+ghost use lib.ListN.{length};
 ghost use Rattle.filling.specs.words.Preorder.{past, walked};
+ghost use Rattle.frames.specs.TableFrame.{definition-room, path-room, term-room};
 
 // The path lengths of the terms due behind the next: one for each level of a path, and the root's.
 pub const LEVEL_ROOM: usize = 65;
@@ -68,7 +69,7 @@ pub fn take(
 
 // A definition is begun, and its root is due.
 fn begin(s: Seen) -> Seen
-    requires { ⌜ s .begun < 64 ⌝ }
+    requires { ⌜ s .begun < definition-room ⌝ }
     ensures { λ r. ⌜ r ≡ started s ⌝ }
 {
     Seen {
@@ -83,7 +84,7 @@ fn begin(s: Seen) -> Seen
 
 // A term is taken in, and its subterms are due.
 fn owe(kind: u8, s: Seen, waiting: &mut Waiting) -> Seen
-    requires { ⌜ (0 < s .due) × (s .terms < 1024) × (s .depth ≤ 64) × (s .due ≤ s .depth + 1) ⌝ }
+    requires { ⌜ (0 < s .due) × (s .terms < term-room) × (s .depth ≤ path-room) × (s .due ≤ s .depth + 1) ⌝ }
     ensures { λ r. ⌜ r ≡ owed kind s (now (waiting .entry)) ⌝ }
     ensures { λ _. ⌜ now (waiting .exit) ≡ pushed kind s (now (waiting .entry)) ⌝ }
 {
@@ -125,7 +126,7 @@ fn owe(kind: u8, s: Seen, waiting: &mut Waiting) -> Seen
 
 // The last of the others' path lengths; 0 where there is none.
 fn last(others: usize, waiting: &Waiting) -> usize
-    requires { ⌜ others ≤ 64 ⌝ }
+    requires { ⌜ others ≤ path-room ⌝ }
     ensures { λ r. ⌜ r ≡ topmost others (now (waiting .entry)) ⌝ }
 {
     if others == 0 {
@@ -137,7 +138,7 @@ fn last(others: usize, waiting: &Waiting) -> usize
 
 // Fills in, for each of the first `count` terms, the number of the term behind it.
 pub fn walk(kinds: &Kinds, count: usize, after: &mut After)
-    requires { ⌜ (count ≤ 1024) × (length (now after) ≡ 1024) ⌝ }
+    requires { ⌜ (count ≤ term-room) × (length (now after) ≡ term-room) ⌝ }
     ensures { λ _. ⌜ now (after .exit) ≡ walked count (now (kinds .entry)) (now (after .entry)) ⌝ }
 {
     let mut i = count;
@@ -152,23 +153,15 @@ pub fn walk(kinds: &Kinds, count: usize, after: &mut After)
 
 // The number of the term behind n terms and their subterms, from number j on.
 fn behind(n: u8, j: usize, after: &After) -> u16
-    requires { ⌜ (n ≤ 2) × (j ≤ 1024) × (length (now after) ≡ 1024) ⌝ }
+    requires { ⌜ (n ≤ 2) × (j ≤ term-room) × (length (now after) ≡ term-room) ⌝ }
     ensures { λ r. ⌜ r ≡ past n j (now (after .entry)) ⌝ }
 {
     if n == 0 {
         return j as u16;
     }
-    let first = after_of(j, after);
+    let first = after_word(j, after);
     if n == 1 {
         return first;
     }
-    after_of(first as usize, after)
-}
-
-// The number of the term behind term j, 0 where there is no such term.
-fn after_of(j: usize, after: &After) -> u16
-    requires { ⌜ length (now after) ≡ 1024 ⌝ }
-    ensures { λ r. ⌜ r ≡ getD (now (after .entry)) j 0 ⌝ }
-{
-    if j < TERM_ROOM { after[j] } else { 0 }
+    after_word(first as usize, after)
 }

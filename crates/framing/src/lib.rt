@@ -32,6 +32,9 @@ ghost use lib.ListN.{length, take};
 ghost use Rattle.columns.specs.words.Columns.{columns};
 ghost use Rattle.framing.specs.words.Told.{labels-told};
 ghost use Rattle.framing.specs.code.Placed.{told-length, told-definition};
+ghost use Rattle.rules.specs.Run.{arc-room};
+ghost use Rattle.control.specs.words.Words.{meetings-from, reference-room};
+ghost use Rattle.frames.specs.TableFrame.{path-room};
 
 // `30 01 nnnn aaaa ssss`, at the front.
 pub fn put_opening(nodes: usize, arcs: usize, meetings: usize, out: &mut [u8]) -> usize
@@ -56,7 +59,7 @@ pub fn put_pairs(
     from: usize,
     out: &mut [u8],
 ) -> usize
-    requires { ⌜ (base ≤ 16384) × (count ≤ 8192) × (from ≤ pairs-cursor) ⌝ }
+    requires { ⌜ (base ≤ meetings-from) × (count ≤ arc-room) × (from ≤ pairs-cursor) ⌝ }
     ensures { λ r. ⌜ Puts from (text (map (pair-frame code) (pairs base (now (track .entry)) 0 count)))
         (now (out .entry)) (now (out .exit)) r ⌝ }
     ensures { λ r. ⌜ r ≡ from + 11 * count ⌝ }
@@ -113,7 +116,7 @@ pub fn nodes_length(
     after: &After,
     roots: &Roots,
 ) -> usize
-    requires { ⌜ count ≤ 8193 ⌝ }
+    requires { ⌜ count ≤ reference-room ⌝ }
     ensures { λ r. ⌜ r ≡ length (text (map node-frame (labels-told
         (columns (now (kinds .entry)) (now (owners .entry)) (now (after .entry)) (now (roots .entry)))
         (now (labels .entry)) 0 count))) ⌝ }
@@ -148,7 +151,7 @@ pub fn put_nodes(
     from: usize,
     out: &mut [u8],
 ) -> usize
-    requires { ⌜ (count ≤ 8193) × (from ≤ 17) ⌝ }
+    requires { ⌜ (count ≤ reference-room) × (from ≤ 17) ⌝ }
     ensures { λ r. ⌜ Puts from (text (map node-frame (labels-told
         (columns (now (kinds .entry)) (now (owners .entry)) (now (after .entry)) (now (roots .entry)))
         (now (labels .entry)) 0 count))) (now (out .entry)) (now (out .exit)) r ⌝ }
@@ -174,7 +177,7 @@ pub fn put_nodes(
 
 // Puts a node's line: `31 iiii dd ll path`.
 fn put_node(number: usize, placed: Placed, path: &Path, at: usize, out: &mut [u8]) -> usize
-    requires { ⌜ (length (now path) ≡ 64) × (told-length placed ≤ 64) × (at ≤ line-cursor) ⌝ }
+    requires { ⌜ (length (now path) ≡ path-room) × (told-length placed ≤ path-room) × (at ≤ line-cursor) ⌝ }
     ensures { λ r. ⌜ Puts at (text ((0x31 ∷ two number ++ (told-definition placed ∷ told-length placed
         ∷ take (told-length placed) (now (path .entry)))) ∷ [])) (now (out .entry)) (now (out .exit)) r ⌝ }
 {
@@ -189,7 +192,7 @@ fn put_node(number: usize, placed: Placed, path: &Path, at: usize, out: &mut [u8
 
 // Puts the first digits of a path.
 fn put_path(path: &Path, count: usize, from: usize, out: &mut [u8]) -> usize
-    requires { ⌜ (length (now path) ≡ 64) × (count ≤ 64) × (from ≤ number-cursor) ⌝ }
+    requires { ⌜ (length (now path) ≡ path-room) × (count ≤ path-room) × (from ≤ number-cursor) ⌝ }
     ensures { λ r. ⌜ Puts from (hex (take count (now (path .entry)))) (now (out .entry)) (now (out .exit)) r ⌝ }
 {
     let mut at = from;

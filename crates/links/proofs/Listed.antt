@@ -10,7 +10,7 @@ use lib.Seq.{sets, sets-eq, length-sets, length-take-le, getD-append-add, getD-s
 use borrow.Author.Tests.{lt-ltb}
 use Rattle.rules.specs.Track.{Pair, pair}
 use Rattle.rules.specs.Run.{arc-room, meeting-room}
-use Rattle.control.specs.words.Words.{track-words, track-word}
+use Rattle.control.specs.words.Words.{track-words, track-word, meetings-from}
 use Rattle.control.specs.words.Views.{pairs}
 use Rattle.links.specs.words.Columns.{flat}
 
@@ -84,7 +84,7 @@ pairs-told base g i (a ∷ ps) fits h =
     let rest = pairs-told base g (suc i) ps (omega arith) (λ j l.
     let same : base + 2 * suc i + j ≡ base + 2 * i + suc (suc j) = omega arith in
     ap (λ (n : ℕ). getD g n 0) same ∙ h (suc (suc j)) (omega arith)) in
-    rw (rest, lt-ltb (base + 2 * i) 28672 (omega arith), lt-ltb (base + 2 * i + 1) 28672 (omega arith), one, two)
+    rw (rest, lt-ltb (base + 2 * i) track-words (omega arith), lt-ltb (base + 2 * i + 1) track-words (omega arith), one, two)
 
 -- pairs that are put are read back
 pub pairs-back : (base : ℕ) (w : List ℕ) (ps : List Pair) → length w ≡ track-words
@@ -117,15 +117,15 @@ pairs-stay base w b vs i (suc c) h =
 module _ (w : List ℕ) (long : length w ≡ track-words) (as′ ms : List Pair) (few : length as′ ≤ arc-room)
     (few-met : length ms ≤ meeting-room) (n : ℕ) where
   abbrev both-put : List ℕ
-  both-put = sets (sets w 0 (flat as′)) 16384 (flat ms)
+  both-put = sets (sets w 0 (flat as′)) meetings-from (flat ms)
 
   pub arcs-back : n ≡ length as′ → pairs 0 both-put 0 n ≡ as′
   arcs-back all =
       ap (pairs 0 both-put 0) all
-      ∙ pairs-stay 0 (sets w 0 (flat as′)) 16384 (flat ms) 0 (length as′) (omega arith)
+      ∙ pairs-stay 0 (sets w 0 (flat as′)) meetings-from (flat ms) 0 (length as′) (omega arith)
       ∙ pairs-back 0 w as′ long (omega arith)
 
-  pub meetings-back : n ≡ length ms → pairs 16384 both-put 0 n ≡ ms
+  pub meetings-back : n ≡ length ms → pairs meetings-from both-put 0 n ≡ ms
   meetings-back all =
-      ap (pairs 16384 both-put 0) all
-      ∙ pairs-back 16384 (sets w 0 (flat as′)) ms (length-sets w 0 (flat as′) ∙ long) (omega arith)
+      ap (pairs meetings-from both-put 0) all
+      ∙ pairs-back meetings-from (sets w 0 (flat as′)) ms (length-sets w 0 (flat as′) ∙ long) (omega arith)

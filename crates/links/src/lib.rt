@@ -22,6 +22,8 @@ ghost use lib.ListN.{replicate};
 ghost use Rattle.rules.specs.Track.{pair};
 ghost use Rattle.control.specs.words.Views.{pairs};
 ghost use Rattle.links.specs.code.Linked as of;
+ghost use Rattle.rules.specs.Run.{arc-room};
+ghost use Rattle.links.specs.code.Linked.{side-words};
 
 // A column of references: marks, labels or numbers; and two words for each reference, and two more.
 pub type Column = [u16; REFERENCES];
@@ -46,14 +48,14 @@ pub fn reference_word(n: usize, column: &Column) -> usize
 
 // Word i of the sides.
 pub fn side_word(i: usize, sides: &SideWords) -> usize
-    ensures { λ r. ⌜ r ≡ look 16388 (now (sides .entry)) i ⌝ }
+    ensures { λ r. ⌜ r ≡ look side-words (now (sides .entry)) i ⌝ }
 {
     if i < SIDE_WORDS { wide(sides[i]) } else { 0 }
 }
 
 // Puts word i of the sides.
 fn put_side_word(i: usize, value: usize, sides: &mut SideWords)
-    ensures { λ _. ⌜ now (sides .exit) ≡ words.put 16388 (now (sides .entry)) i value ⌝ }
+    ensures { λ _. ⌜ now (sides .exit) ≡ words.put side-words (now (sides .entry)) i value ⌝ }
 {
     if i < SIDE_WORDS {
         sides[i] = (value % 65536) as u16;
@@ -77,9 +79,9 @@ pub fn link(
     sides: &mut SideWords,
 ) -> bool
     ensures { λ r. ⌜ r ≡ of.all-fit (now (marks .entry)) (now (kinds .entry)) (now (after .entry))
-        (replicate 16388 0) (pairs 0 (now (track .entry)) 0 (min arcs 8192)) ⌝ }
+        (replicate side-words 0) (pairs 0 (now (track .entry)) 0 (min arcs arc-room)) ⌝ }
     ensures { λ _. ⌜ now (sides .exit) ≡ of.linked (now (marks .entry)) (now (kinds .entry)) (now (after .entry))
-        (replicate 16388 0) (pairs 0 (now (track .entry)) 0 (min arcs 8192)) ⌝ }
+        (replicate side-words 0) (pairs 0 (now (track .entry)) 0 (min arcs arc-room)) ⌝ }
 {
     *sides = [0u16; SIDE_WORDS];
     let count = at_most(arcs, ARC_ROOM);

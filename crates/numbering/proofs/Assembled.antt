@@ -14,7 +14,7 @@ use Rattle.lines.specs.Line.{choose}
 use Rattle.columns.specs.words.Columns.{look}
 use Rattle.rules.specs.Track.{Pair}
 use Rattle.rules.specs.Run.{arc-room, meeting-room}
-use Rattle.control.specs.words.Words.{track-words, reference-room}
+use Rattle.control.specs.words.Words.{track-words, reference-room, meetings-from}
 use Rattle.control.specs.words.Views.{pairs}
 use Rattle.graphs.specs.Parsed.{ends-below}
 use Rattle.graphs.specs.Shape.{every}
@@ -160,7 +160,7 @@ module _ (ms w : List ℕ) (nodes : ℕ) (count : nodes ≡ length (walked ms w)
         → ls ≡ laid (marks-by ms (walked ms w))
         → w ≡ linked ms ks xs (replicate side-words 0) (pairs 0 g 0 (min a arc-room))
         → c ≡ min a arc-room → Puts nodes 0 c false g ns (replicate track-words 0) m to
-        → d ≡ min s meeting-room → Puts nodes 16384 d true g ns to k to′
+        → d ≡ min s meeting-room → Puts nodes meetings-from d true g ns to k to′
         → ((nodes ≡ length (order-by ms ks xs g a s)) × (m ≡ length (arcs-by ms ks xs g a s))
         × (k ≡ length (meetings-by ms ks xs g a s)))
         × ((ls ≡ labels-out ms ks xs g a s) × (to′ ≡ track-out ms ks xs g a s))
@@ -171,7 +171,7 @@ module _ (ms w : List ℕ) (nodes : ℕ) (count : nodes ≡ length (walked ms w)
         let given-is = given ∙ ap numbers order in
         let arcs-are : sorted nodes (renumbered false ns (pairs 0 g 0 c)) ≡ arcs-by ms ks xs g a s =
         rw (count-is, given-is, c-is) in
-        let meetings-are : sorted nodes (renumbered true ns (pairs 16384 g 0 d)) ≡ meetings-by ms ks xs g a s =
+        let meetings-are : sorted nodes (renumbered true ns (pairs meetings-from g 0 d)) ≡ meetings-by ms ks xs g a s =
         rw (count-is, given-is, d-is) in (
           (count-is, arcs .0 ∙ ap length arcs-are, meetings .0 ∙ ap length meetings-are),
           (

@@ -26,6 +26,9 @@ ghost use Rattle.links.specs.words.Columns.{at, flat};
 ghost use Rattle.pairing.specs.code.Renumbered.{renumbered};
 ghost use Rattle.sorting.specs.code.Sorted.{sorted};
 ghost use Rattle.numbering.specs.code.Numbered as of;
+ghost use Rattle.rules.specs.Run.{arc-room};
+ghost use Rattle.control.specs.words.Words.{reference-room, track-words};
+ghost use Rattle.links.specs.code.Linked.{side-words};
 
 // Numbers the graph of a track with so many arcs and meetings, whose references have these marks: its marks by number go to
 // `labels`, its arcs and meetings to `graph`. The other four are scratch, and all 0 afterwards.
@@ -53,10 +56,10 @@ pub fn number(
         (now (track .entry)) arcs meetings ⌝ }
     ensures { λ _. ⌜ now (graph .exit) ≡ of.track-out (now (marks .entry)) (now (kinds .entry)) (now (after .entry))
         (now (track .entry)) arcs meetings ⌝ }
-    ensures { λ _. ⌜ now (sides .exit) ≡ replicate 16388 0 ⌝ }
-    ensures { λ _. ⌜ now (pending .exit) ≡ replicate 16388 0 ⌝ }
-    ensures { λ _. ⌜ now (numbers .exit) ≡ replicate 8193 0 ⌝ }
-    ensures { λ _. ⌜ now (spare .exit) ≡ replicate 28672 0 ⌝ }
+    ensures { λ _. ⌜ now (sides .exit) ≡ replicate side-words 0 ⌝ }
+    ensures { λ _. ⌜ now (pending .exit) ≡ replicate side-words 0 ⌝ }
+    ensures { λ _. ⌜ now (numbers .exit) ≡ replicate reference-room 0 ⌝ }
+    ensures { λ _. ⌜ now (spare .exit) ≡ replicate track-words 0 ⌝ }
 {
     link(arcs, marks, track, kinds, after, sides);
     let nodes = walk(marks, sides, numbers, labels, pending);
@@ -107,15 +110,15 @@ fn number_pairs(
     spare: &mut Track,
     starts: &mut SideWords,
 ) -> usize
-    requires { ⌜ (nodes ≤ 8193) × (count ≤ 8192) × (base + 2 * count ≤ 28672) ⌝ }
-    requires { ⌜ (length (now graph) ≡ 28672) × (length (now spare) ≡ 28672) ⌝ }
+    requires { ⌜ (nodes ≤ reference-room) × (count ≤ arc-room) × (base + 2 * count ≤ track-words) ⌝ }
+    requires { ⌜ (length (now graph) ≡ track-words) × (length (now spare) ≡ track-words) ⌝ }
     requires { ⌜ ((n : ℕ) → at (now numbers) n ≤ nodes) ⌝ }
     ensures { λ r. ⌜ r ≡ length (sorted nodes
         (renumbered either (now (numbers .entry)) (pairs base (now (track .entry)) 0 count))) ⌝ }
     ensures { λ _. ⌜ now (graph .exit) ≡ sets (now (graph .entry)) base (flat (sorted nodes
         (renumbered either (now (numbers .entry)) (pairs base (now (track .entry)) 0 count)))) ⌝ }
-    ensures { λ _. ⌜ length (now (spare .exit)) ≡ 28672 ⌝ }
-    ensures { λ _. ⌜ now (starts .exit) ≡ replicate 16388 0 ⌝ }
+    ensures { λ _. ⌜ length (now (spare .exit)) ≡ track-words ⌝ }
+    ensures { λ _. ⌜ now (starts .exit) ≡ replicate side-words 0 ⌝ }
 {
     let kept = renumber(base, count, either, track, numbers, graph);
     sort(nodes, base, kept, graph, spare, starts);

@@ -10,6 +10,7 @@ ghost use lib.Seq.{sets};
 ghost use Rattle.control.specs.words.Views.{pairs};
 ghost use Rattle.links.specs.words.Columns.{at, flat};
 ghost use Rattle.pairing.specs.code.Renumbered as of;
+ghost use Rattle.control.specs.words.Words.{track-words};
 
 // Puts the numbers of so many pairs of a track, from a word on, to the same words of another, those whose two ends have
 // numbers; the lower one first where either order will do. Tells how many there are.
@@ -21,7 +22,7 @@ pub fn renumber(
     numbers: &Column,
     to: &mut Track,
 ) -> usize
-    requires { ⌜ base + 2 * count ≤ 28672 ⌝ }
+    requires { ⌜ base + 2 * count ≤ track-words ⌝ }
     ensures { λ r. ⌜ r ≡ length (of.renumbered either (now (numbers .entry)) (pairs base (now (track .entry)) 0 count)) ⌝ }
     ensures { λ _. ⌜ now (to .exit) ≡ sets (now (to .entry)) base
         (flat (of.renumbered either (now (numbers .entry)) (pairs base (now (track .entry)) 0 count))) ⌝ }
@@ -47,7 +48,7 @@ fn number_of(n: usize, numbers: &Column) -> u16
 
 // Puts a pair of numbers, by one more than each, where both ends have one.
 fn keep(first: u16, second: u16, either: bool, at: usize, kept: usize, to: &mut Track) -> usize
-    requires { ⌜ (at + 2 ≤ 28672) × (kept ≤ 28672) ⌝ }
+    requires { ⌜ (at + 2 ≤ track-words) × (kept ≤ track-words) ⌝ }
     ensures { λ r. ⌜ r ≡ kept + length (of.renumbered-one either first second) ⌝ }
     ensures { λ _. ⌜ now (to .exit) ≡ sets (now (to .entry)) at (flat (of.renumbered-one either first second)) ⌝ }
 {

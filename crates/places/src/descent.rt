@@ -12,6 +12,7 @@ ghost use Prim.Native.Nat.{_-_, _≤_, _<_};
 ghost use lib.Seq.{sets};
 ghost use Rattle.places.specs.code.Descent as code;
 ghost use Rattle.places.specs.code.Descent.{descended, reached, digits};
+ghost use Rattle.frames.specs.TableFrame.{path-room, term-room};
 
 // Writes the digits from term `from`, which stands at a depth, down to term `to`, up to so many in all;
 // nothing is written where there is no such way.
@@ -24,7 +25,7 @@ pub fn descend(
     after: &After,
     path: &mut Path,
 ) -> Reached
-    requires { ⌜ (depth ≤ most) × (most ≤ 64) ⌝ }
+    requires { ⌜ (depth ≤ most) × (most ≤ path-room) ⌝ }
     ensures { λ r. ⌜ r ≡ reached depth
         (descended (most - depth) (now (kinds .entry)) (now (after .entry)) from to) ⌝ }
     ensures { λ _. ⌜ now (path .exit) ≡ sets (now (path .entry)) depth (digits
@@ -51,7 +52,7 @@ pub fn descend(
 
 // The subterm of a term that `to` stands in, where the term has so many.
 fn step_to(from: usize, to: usize, count: u8, after: &After) -> StepDown
-    requires { ⌜ from < 1024 ⌝ }
+    requires { ⌜ from < term-room ⌝ }
     ensures { λ r. ⌜ (r .next ≡ code.next count (now (after .entry)) from to)
         × (r .digit ≡ code.digit count (now (after .entry)) from to) ⌝ }
 {

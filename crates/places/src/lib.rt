@@ -19,6 +19,7 @@ ghost use lib.Seq.{sets};
 ghost use Rattle.places.specs.code.Descent as code;
 ghost use Rattle.places.specs.code.Descent.{answer, digits, literal-path, reached, path-of, event-of};
 ghost use Rattle.columns.specs.words.Columns.{columns};
+ghost use Rattle.frames.specs.TableFrame.{path-room};
 
 // The path of a literal, in front of what stood there.
 pub type Path = [u8; PATH_ROOM];
@@ -109,7 +110,7 @@ fn path_to(
     roots: &Roots,
     path: &mut Path,
 ) -> Reached
-    requires { ⌜ most ≤ 64 ⌝ }
+    requires { ⌜ most ≤ path-room ⌝ }
     ensures { λ r. ⌜ r ≡ reached 0 (path-of most
         (columns (now (kinds .entry)) (now (owners .entry)) (now (after .entry)) (now (roots .entry)))
         n) ⌝ }

@@ -6,7 +6,8 @@ use columns::After;
 use columns::Kinds;
 use columns::Payloads;
 use columns::Roots;
-use frames::DEFINITION_ROOM;
+use columns::after_word;
+use columns::root_word;
 use frames::TERM_ROOM;
 use kinds::CALL;
 use kinds::EXTERNAL;
@@ -16,7 +17,7 @@ use kinds::SEQUENCE;
 use kinds::subterms;
 ghost use mathlib.Core.Path.{_≡_};
 ghost use Prim.Native.Nat.{_<_};
-ghost use Rattle.columns.specs.words.Columns.{look};
+ghost use Rattle.frames.specs.TableFrame.{term-room};
 ghost use Rattle.plans.specs.code.Laid as of;
 
 // The words of a term.
@@ -58,7 +59,7 @@ pub fn lay_out(
 
 // A term's turn.
 fn lay_term(t: usize, kind: u8, operand: u16, second: u16, plan: &mut Plan)
-    requires { ⌜ t < 1024 ⌝ }
+    requires { ⌜ t < term-room ⌝ }
     ensures { λ _. ⌜ now (plan .exit) ≡ of.laid kind operand second t (now (plan .entry)) ⌝ }
 {
     let around = plan[4 * t + AROUND];
@@ -93,25 +94,25 @@ fn operand_to(kind: u8, payload: u64, roots: &Roots) -> u16
         return (payload % 65536) as u16;
     }
     if kind == CALL {
-        return root_of(payload as usize, roots);
+        return root_word(payload as usize, roots);
     }
     0
 }
 
 // The second subterm of term t, the term behind its first; 0 where it has no two.
 fn second_to(kind: u8, t: usize, after: &After) -> u16
-    requires { ⌜ t < 1024 ⌝ }
+    requires { ⌜ t < term-room ⌝ }
     ensures { λ r. ⌜ r ≡ of.second-of kind t (now (after .entry)) ⌝ }
 {
     if subterms(kind) == 2 {
-        return after_of(t + 1, after);
+        return after_word(t + 1, after);
     }
     0
 }
 
 // What the first subterm of term t is told: of term t itself, where that is a sequence.
 fn inward(kind: u8, t: usize, around: u16) -> u16
-    requires { ⌜ t < 1024 ⌝ }
+    requires { ⌜ t < term-room ⌝ }
     ensures { λ r. ⌜ r ≡ of.inward kind t around ⌝ }
 {
     if kind == SEQUENCE {
@@ -141,22 +142,4 @@ fn put(t: usize, k: usize, value: u16, plan: &mut Plan)
     if t < TERM_ROOM {
         plan[4 * t + k] = value;
     }
-}
-
-// The root of a definition.
-fn root_of(definition: usize, roots: &Roots) -> u16
-    ensures { λ r. ⌜ r ≡ look 64 (now (roots .entry)) definition ⌝ }
-{
-    if definition < DEFINITION_ROOM {
-        roots[definition]
-    } else {
-        0
-    }
-}
-
-// The term behind term t and its subterms.
-fn after_of(t: usize, after: &After) -> u16
-    ensures { λ r. ⌜ r ≡ look 1024 (now (after .entry)) t ⌝ }
-{
-    if t < TERM_ROOM { after[t] } else { 0 }
 }

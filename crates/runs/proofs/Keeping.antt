@@ -30,6 +30,7 @@ use Rattle.step_laws.proofs.Sideless.{Sideless}
 use Rattle.step_laws.proofs.Writing.{Words, lookup-append}
 use Rattle.step_laws.proofs.Going.{Goes}
 use Rattle.counting.specs.code.Counting.{tally-of, narrow, recounted}
+use Rattle.control.specs.words.Words.{reference-room}
 use Rattle.runs.specs.words.Held.{Tells, Whole, Holds}
 use Rattle.rules.specs.Track.{lookup}
 
@@ -98,7 +99,7 @@ module _ (l : Layout) (p x : List ℕ) (ts : List Term) (count : ℕ) (w g c : L
       let few-nodes : length (s .labels ++ r .labels) ≤ 4096 = rooms .1 in
       let few-arcs : length (s .arcs ++ r .arcs) ≤ 8192 = rooms .2 in
       let few-meetings : length (s .meetings ++ r .meetings) ≤ 4096 = rooms .3 in
-      let drawn : r .fresh ≤ 8193 = fresh-room ts goes-behind in
+      let drawn : r .fresh ≤ reference-room = fresh-room ts goes-behind in
       let stands-below : r .reference < r .fresh = reached-climbed ts goes-behind .standing in
       let nodes-sum : d .taken .tally .nodes ≡ length (s .labels ++ r .labels) =
       omega (arith, m .writes .nodes-counted, t .nodes-are, length-append (s .labels) (r .labels)) in

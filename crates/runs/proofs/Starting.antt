@@ -13,7 +13,7 @@ use Rattle.terms.specs.Term.{Term}
 use Rattle.rules.specs.Process.{cells}
 use Rattle.rules.specs.Run.{start, begun}
 use Rattle.plans.specs.words.Plan.{Layout}
-use Rattle.control.specs.words.Words.{reference-room, node}
+use Rattle.control.specs.words.Words.{reference-room, node, track-words}
 use Rattle.offers.specs.words.Told.{starts}
 use Rattle.control.specs.words.Views.{pairs}
 use Rattle.step_laws.proofs.NodeViews.{marked-none}
@@ -61,7 +61,7 @@ module _ (l : Layout) (p x : List ℕ) where
   start-whole : Whole fresh-nodes fresh-track fresh-counters
   start-whole = record {
     whole-nodes = length-replicate {A = ℕ} 65544 0;
-    whole-track = length-replicate {A = ℕ} 28672 0;
+    whole-track = length-replicate {A = ℕ} track-words 0;
     clean = λ j i h k. zero-node 65544 i j;
     first-rests = zero-node 65544 1 0;
     sideless = λ j h. (zero-node 65544 4 j, zero-node 65544 5 j);

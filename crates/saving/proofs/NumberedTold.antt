@@ -23,7 +23,7 @@ use Rattle.places.specs.declared.Literal.{Literal}
 use Rattle.places.specs.declared.Literal.the-variants.{Left, Own, Event}
 use Rattle.marks.specs.words.Mark.{literal}
 use Rattle.columns.proofs.Laws.{look-in, look-out}
-use Rattle.control.specs.words.Words.{reference-room, track-words}
+use Rattle.control.specs.words.Words.{reference-room, track-words, meetings-from}
 use Rattle.rules.specs.Track.{Label, Pair, lookup}
 use Rattle.rules.specs.Run.{arc-room, meeting-room}
 use Rattle.rules.proofs.Marked.{tally}
@@ -192,7 +192,7 @@ module _ (text : List ℕ) (s : Sofar) (q : judged text ≡ accepted s) (ms : Li
   few-arcs = omega (arith, ap length arcs-are, pairs-length 0 t 0 (min a arc-room))
 
   few-meetings : length (g .meetings) ≤ meeting-room
-  few-meetings = omega (arith, ap length meetings-are, pairs-length 16384 t 0 (min m meeting-room))
+  few-meetings = omega (arith, ap length meetings-are, pairs-length meetings-from t 0 (min m meeting-room))
 
   -- the walk over the columns is the graph's
   pub order-told : order-by ms (kinds s) (afters s) t a m ≡ order g

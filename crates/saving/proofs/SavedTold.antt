@@ -18,7 +18,7 @@ use Rattle.frames.specs.TableFrame.{path-room, definition-room}
 use Rattle.terms.specs.Term.{Term, definitions-of}
 use Rattle.terms.proofs.Trees.{each-at, checked-trees}
 use Rattle.places.specs.Place.{Place}
-use Rattle.control.specs.words.Words.{reference-room, node}
+use Rattle.control.specs.words.Words.{reference-room, node, meetings-from}
 use Rattle.control.specs.words.Control.{label}
 use Rattle.rules.specs.Track.{lookup}
 use Rattle.rules.specs.Run.{State, arc-room, meeting-room}
@@ -121,11 +121,11 @@ module _ (text : List ℕ) (t : Sofar) (q : judged text ≡ accepted t) (p x w g
       omega (arith, h .tells .arcs-are, run-rooms ts (h .reached) .1) in
       ap (pairs 0 g 0) all ∙ h .tells .arcs-told
 
-  meetings-are : pairs 16384 g 0 (min (meetings c) meeting-room) ≡ s .meetings
+  meetings-are : pairs meetings-from g 0 (min (meetings c) meeting-room) ≡ s .meetings
   meetings-are =
       let all : min (meetings c) meeting-room ≡ meetings c =
       omega (arith, h .tells .meetings-are, run-rooms ts (h .reached) .2) in
-      ap (pairs 16384 g 0) all ∙ h .tells .meetings-told
+      ap (pairs meetings-from g 0) all ∙ h .tells .meetings-told
 
   -- no two meet twice
   met-once : (i j : ℕ) → between i j (s .meetings) + between j i (s .meetings) ≤ 1

@@ -28,6 +28,8 @@ ghost use Rattle.saving.specs.code.Saving as of;
 ghost use Rattle.columns.specs.words.Columns.{columns};
 ghost use Rattle.runs.specs.words.Held.{lent};
 ghost use Rattle.saving.specs.words.Kept.{Saves};
+ghost use Rattle.control.specs.words.Words.{reference-room, track-words};
+ghost use Rattle.links.specs.code.Linked.{side-words};
 
 // Saves a run into a slice: the text's length, or refusal 12 with the length that it would have. `Short` leaves the slice as
 // it was, and bytes past the text keep their content. `labels` and `graph` hold the numbered graph afterwards; the other five
@@ -59,11 +61,11 @@ pub fn save(
         (now (nodes .entry)) (now (track .entry)) (now (counters .entry)) ⌝ }
     ensures { λ _. ⌜ now (graph .exit) ≡ of.graph-saved (now (kinds .entry)) (now (after .entry))
         (now (nodes .entry)) (now (track .entry)) (now (counters .entry)) ⌝ }
-    ensures { λ _. ⌜ now (marks .exit) ≡ replicate 8193 0 ⌝ }
-    ensures { λ _. ⌜ now (sides .exit) ≡ replicate 16388 0 ⌝ }
-    ensures { λ _. ⌜ now (pending .exit) ≡ replicate 16388 0 ⌝ }
-    ensures { λ _. ⌜ now (numbers .exit) ≡ replicate 8193 0 ⌝ }
-    ensures { λ _. ⌜ now (spare .exit) ≡ replicate 28672 0 ⌝ }
+    ensures { λ _. ⌜ now (marks .exit) ≡ replicate reference-room 0 ⌝ }
+    ensures { λ _. ⌜ now (sides .exit) ≡ replicate side-words 0 ⌝ }
+    ensures { λ _. ⌜ now (pending .exit) ≡ replicate side-words 0 ⌝ }
+    ensures { λ _. ⌜ now (numbers .exit) ≡ replicate reference-room 0 ⌝ }
+    ensures { λ _. ⌜ now (spare .exit) ≡ replicate track-words 0 ⌝ }
     ensures { λ r. ⌜ Saves (columns (now (kinds .entry)) (now (owners .entry)) (now (after .entry)) (now (roots .entry)))
         (lent (now (nodes .entry)) (now (track .entry)) (now (counters .entry))) (now (text .entry))
         r (now (text .exit)) ⌝ }
@@ -89,7 +91,7 @@ pub fn save(
 
 // Takes the marks of the first so many references from a run's nodes into a column.
 fn take_marks(count: usize, nodes: &Nodes, column: &mut Column)
-    requires { ⌜ count ≤ 8193 ⌝ }
+    requires { ⌜ count ≤ reference-room ⌝ }
     ensures { λ _. ⌜ now (column .exit) ≡ laid (of.marks-from (now (nodes .entry)) 0 count) ⌝ }
 {
     *column = [0u16; REFERENCES];

@@ -16,6 +16,8 @@ ghost use Rattle.control.specs.words.Views.{pairs, meetings-of};
 ghost use Rattle.graphs.specs.Shape.{every, ascends, from-on};
 ghost use Rattle.links.specs.words.Columns.{at};
 ghost use Rattle.shape_rules.specs.code.Tests as of;
+ghost use Rattle.rules.specs.Run.{arc-room, meeting-room};
+ghost use Rattle.control.specs.words.Words.{meetings-from};
 
 // Whether the walk has given each node the number that it has.
 pub fn in_order(nodes: usize, numbers: &Column) -> bool
@@ -47,7 +49,7 @@ pub fn all_marked(nodes: usize, labels: &Column) -> bool
 
 // Whether so many pairs, from a word on, ascend by their first number, then their second.
 pub fn ascend(base: usize, count: usize, graph: &Track) -> bool
-    requires { ⌜ (base ≤ 16384) × (count ≤ 8192) ⌝ }
+    requires { ⌜ (base ≤ meetings-from) × (count ≤ arc-room) ⌝ }
     ensures { λ r. ⌜ r ≡ ascends (pairs base (now (graph .entry)) 0 count) ⌝ }
 {
     let mut i: usize = 1;
@@ -66,7 +68,7 @@ pub fn ascend(base: usize, count: usize, graph: &Track) -> bool
 
 // Whether so many meetings join event nodes of one event, the lower number first.
 pub fn join_events(meetings: usize, labels: &Column, graph: &Track, payloads: &Payloads) -> bool
-    requires { ⌜ meetings ≤ 4096 ⌝ }
+    requires { ⌜ meetings ≤ meeting-room ⌝ }
     ensures { λ r. ⌜ r ≡ of.meetings-fit (now (payloads .entry)) (now (labels .entry))
         (meetings-of (now (graph .entry)) meetings) ⌝ }
 {

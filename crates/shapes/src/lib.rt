@@ -21,6 +21,8 @@ use walks::walk;
 ghost use mathlib.Core.Path.{_≡_};
 ghost use lib.ListN.{replicate};
 ghost use Rattle.shapes.specs.code.Rules as of;
+ghost use Rattle.control.specs.words.Words.{reference-room};
+ghost use Rattle.links.specs.code.Linked.{side-words};
 
 // Whether a graph has the shape of a saved track: all rules are tested, whichever is broken. The last four are scratch, and
 // all 0 afterwards.
@@ -40,10 +42,10 @@ pub fn has_shape(
 ) -> bool
     ensures { λ r. ⌜ r ≡ of.has-shape (now (kinds .entry)) (now (payloads .entry)) (now (after .entry))
         (now (labels .entry)) (now (graph .entry)) nodes arcs meetings ⌝ }
-    ensures { λ _. ⌜ now (sides .exit) ≡ replicate 16388 0 ⌝ }
-    ensures { λ _. ⌜ now (pending .exit) ≡ replicate 16388 0 ⌝ }
-    ensures { λ _. ⌜ now (numbers .exit) ≡ replicate 8193 0 ⌝ }
-    ensures { λ _. ⌜ now (walked .exit) ≡ replicate 8193 0 ⌝ }
+    ensures { λ _. ⌜ now (sides .exit) ≡ replicate side-words 0 ⌝ }
+    ensures { λ _. ⌜ now (pending .exit) ≡ replicate side-words 0 ⌝ }
+    ensures { λ _. ⌜ now (numbers .exit) ≡ replicate reference-room 0 ⌝ }
+    ensures { λ _. ⌜ now (walked .exit) ≡ replicate reference-room 0 ⌝ }
 {
     let fits = link(arcs, labels, graph, kinds, after, sides);
     let reached = walk(labels, sides, numbers, walked, pending);

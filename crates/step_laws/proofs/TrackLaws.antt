@@ -14,7 +14,7 @@ use lib.Dec.{ltb}
 use borrow.Author.Tests.{lt-ltb, le-ltb, ltb-true, ltb-false}
 use Rattle.lines.specs.Line.{choose}
 use Rattle.rules.specs.Track.{Pair, pair}
-use Rattle.control.specs.words.Words.{track-words, track-word, put-track, event-node}
+use Rattle.control.specs.words.Words.{track-words, track-word, put-track, event-node, event-nodes-from, meetings-from}
 use Rattle.drawing.specs.code.Drawing.{with-arc, with-meeting, with-met}
 use Rattle.control.specs.words.Views.{pairs, arcs-of, meetings-of, event-nodes}
 
@@ -81,12 +81,12 @@ module _ (g h : List ℕ) where
       rw (one, two, pairs-same base (suc i) c (λ j p q. s j (omega arith) (omega arith)))
 
   pub nodes-same : (i c : ℕ)
-      → ((j : ℕ) → 24576 + i ≤ j → j < 24576 + (i + c) → track-word h j ≡ track-word g j)
+      → ((j : ℕ) → event-nodes-from + i ≤ j → j < event-nodes-from + (i + c) → track-word h j ≡ track-word g j)
       → event-nodes h i c ≡ event-nodes g i c
   unfolding event-nodes event-node
   nodes-same i zero s = refl
   nodes-same i (suc c) s =
-      let one = s (24576 + i) (omega arith) (omega arith) in
+      let one = s (event-nodes-from + i) (omega arith) (omega arith) in
       rw (one, nodes-same (suc i) c (λ j p q. s j (omega arith) (omega arith)))
 
 -- which lists a write leaves alone, by the words that it stays within
@@ -94,16 +94,16 @@ module _ {lo hi : ℕ} {g h : List ℕ} (w : Within lo hi g h) where
   pub arcs-kept : (c : ℕ) → 2 * c ≤ lo → arcs-of h c ≡ arcs-of g c
   arcs-kept c l = pairs-same g h 0 0 c (λ j p q. w .below j (omega arith))
 
-  pub meetings-kept : (c : ℕ) → hi ≤ 16384 → meetings-of h c ≡ meetings-of g c
-  meetings-kept c l = pairs-same g h 16384 0 c (λ j p q. w .above j (omega arith))
+  pub meetings-kept : (c : ℕ) → hi ≤ meetings-from → meetings-of h c ≡ meetings-of g c
+  meetings-kept c l = pairs-same g h meetings-from 0 c (λ j p q. w .above j (omega arith))
 
-  pub meetings-kept-below : (c : ℕ) → 16384 + 2 * c ≤ lo → meetings-of h c ≡ meetings-of g c
-  meetings-kept-below c l = pairs-same g h 16384 0 c (λ j p q. w .below j (omega arith))
+  pub meetings-kept-below : (c : ℕ) → meetings-from + 2 * c ≤ lo → meetings-of h c ≡ meetings-of g c
+  meetings-kept-below c l = pairs-same g h meetings-from 0 c (λ j p q. w .below j (omega arith))
 
-  pub nodes-kept : (j c : ℕ) → hi ≤ 24576 → event-nodes h j c ≡ event-nodes g j c
+  pub nodes-kept : (j c : ℕ) → hi ≤ event-nodes-from → event-nodes h j c ≡ event-nodes g j c
   nodes-kept j c l = nodes-same g h j c (λ i p q. w .above i (omega arith))
 
-  pub nodes-kept-below : (j c : ℕ) → 24576 + (j + c) ≤ lo → event-nodes h j c ≡ event-nodes g j c
+  pub nodes-kept-below : (j c : ℕ) → event-nodes-from + (j + c) ≤ lo → event-nodes h j c ≡ event-nodes g j c
   nodes-kept-below j c l = nodes-same g h j c (λ i p q. w .below i (omega arith))
 
 -- one pair more, and one event node more
@@ -132,7 +132,7 @@ pub data Pairing : Type 0 where
 
 abbrev pub first-word : Pairing → ℕ
 first-word arc = 0
-first-word meeting = 16384
+first-word meeting = meetings-from
 
 abbrev pub pair-room : Pairing → ℕ
 pair-room arc = 8192
@@ -147,7 +147,7 @@ abbrev pub pair-word : Pairing → ℕ → ℕ
 pair-word s i = first-word s + 2 * i
 
 -- the event nodes stand behind both
-pub last-pair : (s : Pairing) → pair-word s (pair-room s) ≤ 24576
+pub last-pair : (s : Pairing) → pair-word s (pair-room s) ≤ event-nodes-from
 last-pair arc = omega arith
 last-pair meeting = omega arith
 
@@ -248,18 +248,18 @@ module _ (m n i : ℕ) (g : List ℕ) where
 
 -- an event node of a step, of those that there is room for
 module _ (n i : ℕ) (g : List ℕ) where
-  pub met-within : Within (24576 + i) 28672 g (with-met n i g)
+  pub met-within : Within (event-nodes-from + i) track-words g (with-met n i g)
   unfolding with-met
   met-within = go (ltb i 4096) refl
     where
-      go : (t : Bool) → ltb i 4096 ≡ t → Within (24576 + i) 28672 g (choose t (put-track g (24576 + i) n) g)
+      go : (t : Bool) → ltb i 4096 ≡ t → Within (event-nodes-from + i) track-words g (choose t (put-track g (event-nodes-from + i) n) g)
       go true e =
-          within-put (24576 + i) 28672 g (24576 + i) n (omega arith) (omega (arith, ltb-true i 4096 e))
-      go false e = within-none (24576 + i) 28672 g
+          within-put (event-nodes-from + i) track-words g (event-nodes-from + i) n (omega arith) (omega (arith, ltb-true i 4096 e))
+      go false e = within-none (event-nodes-from + i) track-words g
 
   pub met-there : length g ≡ track-words → i < 4096 → n < 65536 → event-node i (with-met n i g) ≡ n
   unfolding with-met event-node
-  met-there l r p = simp (lt-ltb i 4096 r) (track-put-same g (24576 + i) n l (omega arith) p)
+  met-there l r p = simp (lt-ltb i 4096 r) (track-put-same g (event-nodes-from + i) n l (omega arith) p)
 
   pub met-keeps-arcs : (c : ℕ) → c ≤ 8192 → arcs-of (with-met n i g) c ≡ arcs-of g c
   met-keeps-arcs c h = arcs-kept met-within c (omega arith)

@@ -12,8 +12,9 @@ ghost use Prim.Native.Nat.{_+_, _*_, _≤_, _<_};
 ghost use lib.ListN.{length, getD, set, replicate};
 ghost use lib.Seq.{sets};
 ghost use Rattle.columns.specs.words.Columns.{look};
-ghost use Rattle.links.specs.code.Linked.{target};
+ghost use Rattle.links.specs.code.Linked.{target, side-words};
 ghost use Rattle.walks.specs.code.Walked as of;
+ghost use Rattle.control.specs.words.Words.{reference-room};
 
 // Numbers the marked references that the sides lead to from reference 0 on: `numbers` gets one more than the number of each,
 // `labels` the marks by number. `pending` is scratch, and all 0 afterwards.
@@ -28,7 +29,7 @@ pub fn walk(
     ensures { λ _. ⌜ now (numbers .exit) ≡ of.numbers (of.walked (now (marks .entry)) (now (sides .entry))) ⌝ }
     ensures { λ _. ⌜ now (labels .exit)
         ≡ of.laid (of.marks-by (now (marks .entry)) (of.walked (now (marks .entry)) (now (sides .entry)))) ⌝ }
-    ensures { λ _. ⌜ now (pending .exit) ≡ replicate 16388 0 ⌝ }
+    ensures { λ _. ⌜ now (pending .exit) ≡ replicate side-words 0 ⌝ }
 {
     *numbers = [0u16; REFERENCES];
     *labels = [0u16; REFERENCES];
@@ -69,7 +70,7 @@ fn give_number(
     numbers: &mut Column,
     labels: &mut Column,
 ) -> usize
-    requires { ⌜ (node < 8193) × (count < 8193) ⌝ }
+    requires { ⌜ (node < reference-room) × (count < reference-room) ⌝ }
     ensures { λ r. ⌜ r ≡ count + 1 ⌝ }
     ensures { λ _. ⌜ now (numbers .exit) ≡ set (now (numbers .entry)) node (count + 1) ⌝ }
     ensures { λ _. ⌜ now (labels .exit) ≡ set (now (labels .entry)) count (getD (now (marks .entry)) node 0) ⌝ }
@@ -81,10 +82,10 @@ fn give_number(
 
 // Puts where a side of a node leads on top of what is pending; how many are pending then.
 fn push(node: usize, side: usize, top: usize, sides: &SideWords, pending: &mut SideWords) -> usize
-    requires { ⌜ (node < 8193) × (side ≤ 2) × (top < 16388) ⌝ }
-    ensures { λ r. ⌜ r ≡ top + length (target (look 16388 (now (sides .entry)) (2 * node + side))) ⌝ }
+    requires { ⌜ (node < reference-room) × (side ≤ 2) × (top < side-words) ⌝ }
+    ensures { λ r. ⌜ r ≡ top + length (target (look side-words (now (sides .entry)) (2 * node + side))) ⌝ }
     ensures { λ _. ⌜ now (pending .exit)
-        ≡ sets (now (pending .entry)) top (target (look 16388 (now (sides .entry)) (2 * node + side))) ⌝ }
+        ≡ sets (now (pending .entry)) top (target (look side-words (now (sides .entry)) (2 * node + side))) ⌝ }
 {
     let next = side_word(2 * node + side, sides);
     if next == 0 {

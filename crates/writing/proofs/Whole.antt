@@ -14,7 +14,7 @@ use Rattle.spelling.specs.words.Puts.{Puts}
 use Rattle.spelling.proofs.Putting.{puts-then}
 use Rattle.spelling.proofs.Spelt.{text-append}
 use Rattle.rules.specs.Run.{arc-room, meeting-room}
-use Rattle.control.specs.words.Words.{reference-room}
+use Rattle.control.specs.words.Words.{reference-room, meetings-from}
 use Rattle.columns.specs.words.Columns.{Columns}
 use Rattle.control.specs.words.Views.{pairs}
 use Rattle.graphs.specs.Graph.{Graph}
@@ -61,7 +61,7 @@ module _ (c : Columns) (ms g : List ℕ) (counts : GraphCounts) {n a m : ℕ} (n
       → Puts 0 (text ((0x30 ∷ 1 ∷ two n ++ two a ++ two m) ∷ [])) s t b
       → Puts b (text (map node-frame (labels-told c ms 0 n))) t u d
       → Puts d (text (map (pair-frame arc-code) (pairs 0 g 0 a))) u v e
-      → Puts e (text (map (pair-frame meeting-code) (pairs 16384 g 0 m))) v w f
+      → Puts e (text (map (pair-frame meeting-code) (pairs meetings-from g 0 m))) v w f
       → Puts f (text (last-frame ∷ [])) w x z
       → Puts 0 (graph-text (graph-told c ms g counts)) s x z
   unfolding graph-told opening-frame
@@ -73,7 +73,7 @@ module _ (c : Columns) (ms g : List ℕ) (counts : GraphCounts) {n a m : ℕ} (n
         ← meetings,
         nodes-count c ms 0 n,
         pairs-count 0 g 0 a,
-        pairs-count 16384 g 0 m,
+        pairs-count meetings-from g 0 m,
       )
       (puts-then (puts-then (puts-then (puts-then p q) r) o) l)
 

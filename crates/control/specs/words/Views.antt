@@ -11,7 +11,7 @@ use Rattle.places.specs.declared.Literal.the-variants.{Left, Own, Event}
 use Rattle.marks.specs.words.Mark.{literal}
 use Rattle.rules.specs.Track.{Pair, pair}
 use Rattle.plans.specs.words.Plan.{Layout}
-use Rattle.control.specs.words.Words.{track-word, event-node}
+use Rattle.control.specs.words.Words.{track-word, event-node, meetings-from}
 use Rattle.control.specs.words.Control.{label}
 
 -- c pairs from number i on, of those that stand from a word on
@@ -26,7 +26,7 @@ arcs-of g c = pairs 0 g 0 c
 
 -- the first c meetings
 abbrev pub meetings-of : List ℕ → ℕ → List Pair
-meetings-of g c = pairs 16384 g 0 c
+meetings-of g c = pairs meetings-from g 0 c
 
 -- c event nodes of a step from number i on
 unfoldable pub event-nodes : List ℕ → ℕ → ℕ → List ℕ

@@ -3,7 +3,7 @@ use Prim.Native.Nat.{ℕ, zero, suc, _+_, _*_}
 use mathlib.Core.List.{List}
 use lib.Dec.{ltb}
 use Rattle.lines.specs.Line.{choose}
-use Rattle.control.specs.words.Words.{put, track-word, put-track, event-node}
+use Rattle.control.specs.words.Words.{put, track-word, put-track, event-node, event-nodes-from, meetings-from}
 use Rattle.control.specs.words.Sums.{capped}
 use Rattle.looking.specs.code.Looking.{leads}
 use Rattle.drawing.specs.declared.Tally.{Tally}
@@ -69,11 +69,11 @@ with-arc from to i g = choose (ltb i 8192) (put-track (put-track g (2 * i) from)
 -- meeting number i, behind the arcs
 unfoldable pub with-meeting : ℕ → ℕ → ℕ → List ℕ → List ℕ
 with-meeting m n i g =
-    choose (ltb i 4096) (put-track (put-track g (16384 + 2 * i) m) (16384 + 2 * i + 1) n) g
+    choose (ltb i 4096) (put-track (put-track g (meetings-from + 2 * i) m) (meetings-from + 2 * i + 1) n) g
 
 -- event node number i of the step, behind the meetings
 unfoldable pub with-met : ℕ → ℕ → List ℕ → List ℕ
-with-met n i g = choose (ltb i 4096) (put-track g (24576 + i) n) g
+with-met n i g = choose (ltb i 4096) (put-track g (event-nodes-from + i) n) g
 
 -- a tally with the words of its track
 pub record Kept : Type 0 where

@@ -4,6 +4,7 @@ use mathlib.Core.Path.{_∙_, ap}
 use Prim.Native.Nat.{ℕ}
 use lib.ListN.{getD}
 use native.Mathlib.Omega.{arith}
+use Rattle.columns.proofs.Laws.{look-whole}
 use Rattle.filling.proofs.Walked.{past-none, past-one, past-two}
 use borrow.Author.Needs.{needs}
 use Rattle.filling.proofs.behind.Statement.{statement}
@@ -15,24 +16,27 @@ cast-result c = search needs
 returns : tie.Need-returns
 returns c = past-none _ _ _ (c .if1 .taken)
 
-after-of-requires : tie.Need-after-of-requires
-after-of-requires c κs = search needs
+after-word-requires : tie.Need-after-word-requires
+after-word-requires c κs = search needs
 
 returns-2 : tie.Need-returns-2
-returns-2 c = c .before .after-of .ensures ∙ past-one _ _ _ (c .if2 .taken)
+returns-2 c =
+    let first = c .before in
+    first .after-word .ensures ∙ look-whole _ _ _ (first .before .before .pre .2) ∙ past-one _ _ _ (c .if2 .taken)
 
-cast-after-of : tie.Need-cast-after-of
-cast-after-of c = search needs
+cast-after-word : tie.Need-cast-after-word
+cast-after-word c = search needs
 
-after-of-requires-2 : tie.Need-after-of-requires-2
-after-of-requires-2 c κs = search needs
+after-word-requires-2 : tie.Need-after-word-requires-2
+after-word-requires-2 c κs = search needs
 
 returns-3 : tie.Need-returns-3
 returns-3 c =
     let first = c .before .before in
-    let xs = first .before .before .args .after .now in
-    let from = ap (λ (j : ℕ). getD xs j 0) (first .after-of .ensures) in
-    c .after-of2 .ensures ∙ from ∙ past-two _ _ _ (omega arith)
+    let s = first .before .before in
+    let xs = s .args .after .now in
+    let from = ap (λ (j : ℕ). getD xs j 0) (first .after-word .ensures ∙ look-whole _ _ _ (s .pre .2)) in
+    c .after-word2 .ensures ∙ look-whole _ _ _ (s .pre .2) ∙ from ∙ past-two _ _ _ (omega arith)
 
 pub behind-spec : {M : Type 1} → statement M
 behind-spec =
@@ -40,8 +44,8 @@ behind-spec =
     (tie.spec
     cast-result
     returns
-    after-of-requires
+    after-word-requires
     returns-2
-    cast-after-of
-    after-of-requires-2
+    cast-after-word
+    after-word-requires-2
     returns-3)

@@ -6,7 +6,7 @@ use Rattle.columns.specs.words.Columns.{Columns}
 use Rattle.marks.specs.words.Mark.{literal}
 use Rattle.rules.specs.Track.{Label}
 use Rattle.rules.specs.Run.{arc-room, meeting-room}
-use Rattle.control.specs.words.Words.{reference-room}
+use Rattle.control.specs.words.Words.{reference-room, meetings-from}
 use Rattle.plans.specs.words.Layout.{place-of}
 use Rattle.control.specs.words.Views.{pairs}
 use Rattle.graphs.specs.Graph.{Graph}
@@ -29,5 +29,5 @@ module _ (c : Columns) where
   graph-told ms g n = record {
     labels = labels-told ms 0 (min (n .nodes) reference-room);
     arcs = pairs 0 g 0 (min (n .arcs) arc-room);
-    meetings = pairs 16384 g 0 (min (n .meetings) meeting-room);
+    meetings = pairs meetings-from g 0 (min (n .meetings) meeting-room);
   }

@@ -8,6 +8,7 @@ use mathlib.Core.Logic.{⊎-elim}
 use lib.ListN.{replicate}
 use borrow.Author.Needs.{needs}
 use native.Mathlib.Omega.{arith}
+use Rattle.links.specs.code.Linked.{side-words}
 use Rattle.links.proofs.LinkLaws.{fit-from, linked-from, fit-turn, linked-turn, fits-lost, fits-kept}
 use Rattle.links.proofs.LinkLaws.{linking-over}
 use Rattle.links.proofs.link.Statement.{statement}
@@ -16,9 +17,9 @@ use Rattle.links.proofs.link.Tie as tie
 abbrev Inv-loop : tie.InvT-loop
 Inv-loop arcs marks track kinds after sides₀ count fits₀ i₀ sides fits i =
     (i ≤ count) × (count ≤ 8192)
-    × (fit-from marks kinds after track count (replicate 16388 0) 0
+    × (fit-from marks kinds after track count (replicate side-words 0) 0
     ≡ (fits && fit-from marks kinds after track count sides i))
-    × (linked-from marks kinds after track count (replicate 16388 0) 0
+    × (linked-from marks kinds after track count (replicate side-words 0) 0
     ≡ linked-from marks kinds after track count sides i)
 
 abbrev μ-loop : tie.MeasureT-loop

@@ -7,6 +7,7 @@ use native.Mathlib.Omega.{arith}
 use lib.ListN.{replicate, length-replicate}
 use borrow.Author.Needs.{needs}
 use Rattle.links.proofs.Listed.{put-long}
+use Rattle.control.specs.words.Words.{track-words}
 use Rattle.numbering.proofs.Assembled.{nodes-most, nodes-above, assembled}
 use Rattle.numbering.proofs.number.Statement.{statement}
 use Rattle.numbering.proofs.number.Tie as tie
@@ -25,7 +26,7 @@ number-pairs-requires c κs =
     let counted = c .before .before .before .before in
     let numbered = counted .before .before .before .walk .ensures in
     let nodes = nodes-most _ _ _ (numbered .0) in
-    let blank = length-replicate {A = ℕ} 28672 0 in (
+    let blank = length-replicate {A = ℕ} track-words 0 in (
       (omega (arith, nodes), omega (arith, counted .at-most .ensures), omega (arith, counted .at-most .ensures)),
       ((blank, blank), nodes-above _ _ _ (numbered .0) _ (numbered .1 .0)),
     )
@@ -39,10 +40,10 @@ number-pairs-requires-2 c κs =
     let arcs = counted .before .number-pairs .ensures in
     let numbered = counted .before .before .before .before .before .before .before .before .before .walk .ensures in
     let nodes = nodes-most _ _ _ (numbered .0) in
-    let blank = length-replicate {A = ℕ} 28672 0 in (
+    let blank = length-replicate {A = ℕ} track-words 0 in (
       (omega (arith, nodes), omega (arith, counted .at-most2 .ensures), omega (arith, counted .at-most2 .ensures)),
       (
-        (put-long 0 (replicate 28672 0) _ _ blank (arcs .1 .0), arcs .1 .1 .0),
+        (put-long 0 (replicate track-words 0) _ _ blank (arcs .1 .0), arcs .1 .1 .0),
         nodes-above _ _ _ (numbered .0) _ (numbered .1 .0),
       ),
     )

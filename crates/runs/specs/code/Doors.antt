@@ -11,6 +11,7 @@ use Rattle.weights.specs.declared.Weighed.the-variants.{Derived, Nothing}
 use Rattle.leaves.specs.code.Leaves.{Done, called}
 use Rattle.stepping.specs.code.Take.{take}
 use Rattle.counting.specs.code.Counting.{reference, cells, arcs, over-room, tally-of, recounted}
+use Rattle.control.specs.words.Words.{track-words}
 use Rattle.runs.specs.declared.Answer.{Answer}
 use Rattle.runs.specs.declared.Answer.the-variants.{Accepted, Refused}
 
@@ -19,7 +20,7 @@ abbrev pub fresh-nodes : List ℕ
 fresh-nodes = replicate 65544 0
 
 abbrev pub fresh-track : List ℕ
-fresh-track = replicate 28672 0
+fresh-track = replicate track-words 0
 
 abbrev pub fresh-counters : List ℕ
 fresh-counters = 0 ∷ 1 ∷ 1 ∷ 0 ∷ 0 ∷ 0 ∷ 0 ∷ 0 ∷ []

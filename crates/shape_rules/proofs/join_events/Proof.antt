@@ -5,6 +5,7 @@ use mathlib.Core.Path.{_∙_}
 use borrow.Author.Needs.{needs}
 use native.Mathlib.Omega.{arith}
 use Rattle.control.specs.words.Views.{pairs}
+use Rattle.control.specs.words.Words.{meetings-from}
 use Rattle.shape_rules.proofs.RuleTests.{told-broken, told-met, pairs-listed, Passed, none-tested}
 use Rattle.shape_rules.proofs.RuleTests.{test-passed, test-failed, all-passed, every-both, meets-well}
 use Rattle.shape_rules.proofs.RuleTests.{meeting-told}
@@ -12,13 +13,13 @@ use Rattle.shape_rules.proofs.join_events.Statement.{statement}
 use Rattle.shape_rules.proofs.join_events.Tie as tie
 
 abbrev Inv-loop : tie.InvT-loop
-Inv-loop meetings labels graph payloads i₀ i = Passed (meets-well payloads labels) (pairs 16384 graph) meetings i
+Inv-loop meetings labels graph payloads i₀ i = Passed (meets-well payloads labels) (pairs meetings-from graph) meetings i
 
 abbrev μ-loop : tie.MeasureT-loop
 μ-loop meetings labels graph payloads i₀ i = meetings - i
 
 loop-holds : tie.Need-loop-holds Inv-loop μ-loop
-loop-holds c = none-tested _ (pairs 16384 _) _
+loop-holds c = none-tested _ (pairs meetings-from _) _
 
 mul-at : tie.Need-mul-at Inv-loop μ-loop
 mul-at c = omega arith
@@ -51,7 +52,7 @@ returns c =
     let tested = words .before .before in
     let told = meeting-told _ _ (words .before .track-word .ensures) (words .track-word2 .ensures)
     (marks .before .reference-word .ensures) (marks .reference-word2 .ensures) (c .before .of-one-event .ensures) in
-    test-failed _ (pairs-listed 16384 _) _ _ (tested .before .loop .inv) (tested .loop-test .taken)
+    test-failed _ (pairs-listed meetings-from _) _ _ (tested .before .loop .inv) (tested .loop-test .taken)
     (told-broken told (c .if1 .taken))
     ∙ every-both _ _ _
 
@@ -68,11 +69,11 @@ loop-again c =
     let tested = words .before .before in
     let told = meeting-told _ _ (words .before .track-word .ensures) (words .track-word2 .ensures)
     (marks .before .reference-word .ensures) (marks .reference-word2 .ensures) (c .before .of-one-event .ensures) in
-    test-passed _ (pairs-listed 16384 _) _ _ (tested .before .loop .inv) (tested .loop-test .taken)
+    test-passed _ (pairs-listed meetings-from _) _ _ (tested .before .loop .inv) (tested .loop-test .taken)
     (told-met told (c .if1 .left))
 
 returns-2 : tie.Need-returns-2 Inv-loop μ-loop
-returns-2 c = all-passed _ (pairs-listed 16384 _) _ _ (c .before .loop .inv) (c .loop-test .left) ∙ every-both _ _ _
+returns-2 c = all-passed _ (pairs-listed meetings-from _) _ _ (c .before .loop .inv) (c .loop-test .left) ∙ every-both _ _ _
 
 pub join-events-spec : {M : Type 1} → statement M
 join-events-spec =

@@ -5,6 +5,7 @@ use Prim.Native.Nat.{_-_}
 use mathlib.Core.Path.{refl}
 use borrow.Author.Needs.{needs}
 use native.Mathlib.Omega.{arith}
+use Rattle.control.specs.words.Words.{reference-room}
 use Rattle.walks.proofs.Turns.{Underway, walk-begins, walk-done, pending-most, next-below, turn-passes}
 use Rattle.walks.proofs.Turns.{turn-fits, turn-numbers, pushed-most}
 use Rattle.walks.proofs.walk.Statement.{statement}
@@ -21,7 +22,7 @@ Inv-walk marks sides numbers₀ labels₀ pending₀ top₀ count₀ numbers lab
     Underway marks sides numbers labels pending top count
 
 abbrev μ-walk : tie.MeasureT-walk
-μ-walk marks sides numbers₀ labels₀ pending₀ top₀ count₀ numbers labels pending top count = 8193 - count
+μ-walk marks sides numbers₀ labels₀ pending₀ top₀ count₀ numbers labels pending top count = reference-room - count
 
 pending-first-requires : tie.Need-pending-first-requires Inv-loop μ-loop Inv-walk μ-walk
 pending-first-requires c κs = search needs

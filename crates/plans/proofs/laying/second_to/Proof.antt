@@ -8,20 +8,20 @@ use Rattle.plans.proofs.laying.second_to.Tie as tie
 subterms-requires : tie.Need-subterms-requires
 subterms-requires c κs = search needs
 
-add-after-of : tie.Need-add-after-of
-add-after-of c = search needs
+add-after-word : tie.Need-add-after-word
+add-after-word c = search needs
 
-after-of-requires : tie.Need-after-of-requires
-after-of-requires c κs = search needs
+after-word-requires : tie.Need-after-word-requires
+after-word-requires c κs = search needs
 
 returns : tie.Need-returns
 returns c =
     let two = c .before in
-    c .after-of .ensures ∙ second-two _ _ _ _ (two .before .subterms .ensures) (two .if1 .taken)
+    c .after-word .ensures ∙ second-two _ _ _ _ (two .before .subterms .ensures) (two .if1 .taken)
 
 returns-2 : tie.Need-returns-2
 returns-2 c = second-none _ _ _ _ (c .before .subterms .ensures) (c .if1 .left)
 
 pub second-to-spec : {M : Type 1} → statement M
 second-to-spec =
-    tie.close (tie.spec subterms-requires add-after-of after-of-requires returns returns-2)
+    tie.close (tie.spec subterms-requires add-after-word after-word-requires returns returns-2)
