@@ -16,7 +16,7 @@ ROOT = next(path for path in pathlib.Path(__file__).resolve().parents if (path /
 from tools import closure, sources, unused
 
 HEADINGS = ["frames", "rules", "saving", "programs"]
-HANDED_ABOUT = {"play": {"rules"}}  # an event, in what a script's line comes to
+HANDED_ABOUT = {"play": {"offering", "rules"}}  # an event in what a script's line comes to, and what is offered
 LOGIC_LIBRARIES = ("Prim", "mathlib", "lib")
 FRONT_PAGES = {"Lib.antt": "", "words.antt": "words/", "code.antt": "code/"}  # of specs/, and what each is of
 KINDS = {"": "meaning", "words": "words", "code": "code"}  # of definitions, by their folder below specs/

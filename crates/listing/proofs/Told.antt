@@ -19,9 +19,9 @@ use Rattle.rules.proofs.Ranged.{reached-ranged, ranged-among}
 use Rattle.plans.specs.code.Laid.{laid-out}
 use Rattle.plans.specs.words.Layout.{layout}
 use Rattle.plans.proofs.LaidRooms.{layout-low}
-use Rattle.offers.specs.code.Offering.{status}
-use Rattle.offers.specs.words.Told.{Covers}
-use Rattle.offers.proofs.Runs.{run-status}
+use Rattle.status.specs.code.Status.{status}
+use Rattle.status.specs.words.Covering.{Covers}
+use Rattle.status.proofs.Runs.{run-status}
 use Rattle.counting.specs.code.Counting.{reference}
 use Rattle.runs.specs.words.Held.{Holds}
 use Rattle.runs.proofs.Starting.{start-holds}

@@ -15,7 +15,7 @@ use Rattle.tables.specs.declared.Checked.{Checked}
 use Rattle.tables.specs.declared.Checked.the-variants.{Accepted, Refused}
 use Rattle.tables.proofs.Whole.{answer-refuses, answer-accepts}
 use Rattle.plans.specs.code.Laid.{laid-out}
-use Rattle.offers.specs.code.Offering.{status}
+use Rattle.status.specs.code.Status.{status}
 use Rattle.rules.specs.declared.Status.{Status}
 use Rattle.rules.specs.declared.Status.the-variants.{Live, Ended, Stuck}
 use Rattle.runs.specs.code.Doors.{fresh-nodes, fresh-track, fresh-counters}

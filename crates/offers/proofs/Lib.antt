@@ -1,5 +1,5 @@
 -- Laws of offers: `Returns` of what the definitions of the code are at each test, `Untouched` of terms that no
--- step has touched, `Standing` of the control that stands at a reference, `Runs` of a run's offers and status.
+-- step has touched, `Standing` of the control that stands at a reference, `Runs` of a run's offers.
 pub mod Returns
 pub mod Untouched
 pub mod Standing

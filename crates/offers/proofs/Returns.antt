@@ -1,79 +1,23 @@
--- What the definitions of the code are at each test: one law a return, over plain variables. An answer's
--- events are told by their members, so two offers are equal where each event is in both or in neither.
--- Assumes nothing.
-use Prim.Native.Nat.{ℕ, zero, suc, _+_, _-_, _%_, _^_, _≤_, _<_}
-use mathlib.Core.Path.{_≡_, refl, ap, _∙_, fun-ext}
-use mathlib.Core.Bool.{Bool, true, false, _&&_, _||_, not}
+-- What the definitions of the code are at each test: one law a return, over plain variables. Assumes nothing.
+use Prim.Native.Nat.{ℕ, suc, _+_, _-_, _≤_, _<_}
+use mathlib.Core.Path.{_≡_, refl, _∙_}
+use mathlib.Core.Bool.{Bool, true, false, _&&_, not}
 use mathlib.Core.List.{List}
 use native.Mathlib.Omega.{arith}
-use lib.Dec.{eqb, ltb}
-use borrow.Author.Tests.{lt-ltb, le-ltb, eq-eqb, ne-eqb, eqb-true, eqb-false}
-use Rattle.frames.specs.TableFrame.{term-room, event-room}
-use Rattle.sets.specs.EventSet.{member}
-use Rattle.sets.proofs.Members.{set-within}
+use lib.Dec.{eqb}
+use borrow.Author.Tests.{lt-ltb, le-ltb, eq-eqb, ne-eqb}
+use Rattle.frames.specs.TableFrame.{term-room}
 use Rattle.columns.specs.words.Columns.{look}
 use Rattle.rules.specs.Run.{cell-room}
-use Rattle.rules.proofs.Offered.{or-right}
 use Rattle.plans.specs.words.Plan.{kind, operand, second, around}
 use Rattle.control.specs.words.Control.{state, term, frame, first, second-side, at-end, beyond}
-use Rattle.sets.specs.Told.{SetOf, shown}
-use Rattle.sets.proofs.Bits.{none-in-zero}
-use Rattle.offers.specs.declared.Offered.{Offered}
-use Rattle.rules.specs.declared.Status.the-variants.{Live, Ended, Stuck}
-use Rattle.offers.specs.code.Offering.{Offer, seen, unseen, own, settled, combined, by-kind, first-of}
-use Rattle.offers.specs.code.Offering.{of-term, levels, followed, bound, ended, by-state, at, offered}
-use Rattle.offers.specs.code.Offering.{some-of, standing, status}
+use Rattle.offering.specs.code.Offering.{Offer, unseen, own, settled, combined}
+use Rattle.offers.specs.code.Following.{by-kind, first-of, of-term, levels, followed, bound, ended}
+use Rattle.offers.specs.code.Following.{by-state, at, offered}
 
 -- a level falls
 pub one-less : (n : ℕ) → (n ≡ 0 → ⊥) → n ≡ suc (n - 1)
 one-less n h = omega arith
-
--- offers are equal where their parts are
-pub same-offers :
-    (a b : Bool) (f g : ℕ → Bool) → ((k : ℕ) → f k ≡ g k)
-    → _≡_ {A = Offer} (record { tau = a; tick = b; event = f }) (record { tau = a; tick = b; event = g })
-same-offers a b f g h = ap (λ (e : ℕ → Bool). record { tau = a; tick = b; event = e }) (fun-ext h)
-
-pub no-events : (a b : Bool) → seen (record { tau = a; tick = b; events = 0 }) ≡ unseen a b
-no-events a b = same-offers a b _ _ none-in-zero
-
--- what a term offers by its own kind
-module _ (k e : ℕ) where
-  pub own-event : k ≡ 2 → (s : ℕ) → SetOf (λ n. ltb (e % 256) event-room && eqb n (e % 256)) s
-      → seen (record { tau = false; tick = false; events = s }) ≡ own k e
-  unfolding own
-  own-event h s told = rw (eq-eqb k 2 h) (same-offers false false _ _ told)
-
-  pub own-tick : (k ≡ 2 → ⊥) → k ≡ 7 → unseen false true ≡ own k e
-  unfolding own
-  own-tick n h = simp (ne-eqb k 2 n, eq-eqb k 7 h)
-
-  pub own-tau : (k ≡ 2 → ⊥) → (k ≡ 7 → ⊥) → unseen true false ≡ own k e
-  unfolding own
-  own-tau n m = simp (ne-eqb k 2 n, ne-eqb k 7 m)
-
-module _ (k x : ℕ) (both : Bool) (l r : Offered) (s : ℕ) where
-  pub combined-parallel : k ≡ 6 → SetOf (shown x (l .events) (r .events)) s
-      → seen (record { tau = (l .tau || l .tick) || (r .tau || r .tick); tick = both; events = s })
-      ≡ combined k x both (seen l) (seen r)
-  unfolding combined
-  combined-parallel h told = rw (eq-eqb k 6 h) (same-offers _ _ _ _ told)
-
-  pub combined-choice : (k ≡ 6 → ⊥) → SetOf (λ n. member n (l .events) || member n (r .events)) s
-      → seen (record { tau = l .tau || r .tau; tick = l .tick || r .tick; events = s })
-      ≡ combined k x both (seen l) (seen r)
-  unfolding combined
-  combined-choice n told = rw (ne-eqb k 6 n) (same-offers _ _ _ _ told)
-
-module _ (o : Offered) where
-  pub settled-nested : (b : Bool) → b ≡ true
-      → seen (record { tau = o .tau || o .tick; tick = false; events = o .events }) ≡ settled b (seen o)
-  unfolding settled
-  settled-nested b h = rw h
-
-  pub settled-bare : (b : Bool) → b ≡ false → seen o ≡ settled b (seen o)
-  unfolding settled
-  settled-bare b h = rw h
 
 -- a term's first subterm
 module _ (t : ℕ) where
@@ -248,49 +192,3 @@ module _ (p x w : List ℕ) (n : ℕ) where
   pub offered-there : (n ≡ 0 → ⊥) → at cell-room p x w n 0 0 ≡ offered p x w n
   unfolding offered
   offered-there h = simp (ne-eqb n 0 h)
-
--- one of the first n events is found
-some-found : (n k : ℕ) (test : ℕ → Bool) → k < n → test k ≡ true → some-of n test ≡ true
-unfolding some-of
-some-found zero k test h t = absurd (omega arith)
-some-found (suc n) k test h t = go (eqb k n) refl (λ m. some-found n k test m t)
-  where
-    go : (b : Bool) → eqb k n ≡ b → (k < n → some-of n test ≡ true) → (test n || some-of n test) ≡ true
-    go true e rest = rw (← eqb-true k n e, t)
-    go false e rest =
-        let apart = eqb-false k n e in
-        or-right (test n) (some-of n test) (rest (omega arith))
-
-none-found : (n : ℕ) (test : ℕ → Bool) → ((k : ℕ) → test k ≡ false) → some-of n test ≡ false
-unfolding some-of
-none-found zero test h = refl
-none-found (suc n) test h = rw (h n) (none-found n test h)
-
--- the status, at Ω or by what an answer says
-module _ (p x w : List ℕ) (n : ℕ) where
-  pub status-ended : ended w n ≡ true → Ended ≡ status p x w n
-  unfolding status standing
-  status-ended h = rw h
-
-  module _ (r : Offered) (told : seen r ≡ offered p x w n) (going : ended w n ≡ false) where
-    pub status-tau : r .tau ≡ true → Live ≡ status p x w n
-    unfolding status standing
-    status-tau t = rw (← told, going, t)
-
-    module _ (no-tau : r .tau ≡ false) where
-      pub status-tick : r .tick ≡ true → Live ≡ status p x w n
-      unfolding status standing
-      status-tick t = rw (← told, going, no-tau, t)
-
-      pub status-stuck : r .tick ≡ false → ((k : ℕ) → member k (r .events) ≡ false) → Stuck ≡ status p x w n
-      unfolding status standing
-      status-stuck t none =
-          rw (← told, going, no-tau, t, none-found event-room (λ k. member k (r .events)) none)
-
-      -- an answer's set has no event past the room
-      pub status-event : r .tick ≡ false → r .events < 2 ^ event-room → (k : ℕ) → member k (r .events) ≡ true
-          → Live ≡ status p x w n
-      unfolding status standing
-      status-event t fits k there =
-          let below = set-within (r .events) event-room .0 fits k there in
-          rw (← told, going, no-tau, t, some-found event-room k (λ k. member k (r .events)) below there)

@@ -22,8 +22,8 @@ use Rattle.rules.specs.Offers.{offers-τ, offers-✓, offers-event}
 use Rattle.plans.specs.words.Plan.{Layout, kind, second, around}
 use Rattle.control.specs.words.Control.{state, term, frame, first, second-side, at-end, inside, split-kind}
 use Rattle.control.specs.words.Control.{split-set, Around, Untouched, Rests, Splits, HoldsControl}
-use Rattle.offers.specs.code.Offering.{Offer, unseen, settled, combined, of-term, levels, followed}
-use Rattle.offers.specs.code.Offering.{bound, ended, at}
+use Rattle.offering.specs.code.Offering.{Offer, unseen, settled, combined}
+use Rattle.offers.specs.code.Following.{of-term, levels, followed, bound, ended, at}
 use Rattle.offers.specs.words.Told.{offer-of, Low}
 use Rattle.offers.proofs.Returns.{one-less, first-in, ended-not, ended-state, followed-there}
 use Rattle.offers.proofs.Returns.{followed-beyond, at-side, at-more, state-still, state-resting}

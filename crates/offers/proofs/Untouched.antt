@@ -24,9 +24,11 @@ use Rattle.rules.specs.Process.{below, joined, untouched}
 use Rattle.rules.specs.Step.{at-Ω}
 use Rattle.rules.specs.Offers.{leaf-offers, offers-τ, offers-✓, offers-event}
 use Rattle.plans.specs.words.Plan.{Layout, word, kind, operand, second, Planned, first-around, second-around}
-use Rattle.offers.specs.code.Offering.{Offer, own, settled, combined, by-kind, of-term, levels}
+use Rattle.offering.specs.code.Offering.{Offer, own, settled, combined}
+use Rattle.offering.proofs.Returns.{same-offers}
+use Rattle.offers.specs.code.Following.{by-kind, of-term, levels}
 use Rattle.offers.specs.words.Told.{offer-of, Low}
-use Rattle.offers.proofs.Returns.{same-offers, one-less, first-in, term-more}
+use Rattle.offers.proofs.Returns.{one-less, first-in, term-more}
 
 -- a term with a kind is one of the plan's
 pub in-plan : (p : List ℕ) (i : ℕ) → 0 < kind p i → i < term-room

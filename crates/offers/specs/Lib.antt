@@ -1,3 +1,3 @@
--- What a run offers, and its status. Below: `words`, layouts of words and invariants; `code`, mirrors of code.
+-- What a run offers. Below: `words`, layouts of words and invariants; `code`, mirrors of code.
 pub mod words
 pub mod code

@@ -1,2 +1,2 @@
--- Mirrors of code: `Offering`, what following a control downward computes.
-pub mod Offering
+-- Mirrors of code: `Following`, what following a control downward computes.
+pub mod Following

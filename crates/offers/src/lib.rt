@@ -1,6 +1,6 @@
-// What a run offers, and its status: the events that its control has derivations for, by following the control
-// and the terms below it downward. Nothing is written. It relies on the plan of the table, the words of the run
-// and sets of events.
+// What a run offers: the events that its control has derivations for, by following the control and the terms below
+// it downward. Nothing is written. It relies on the plan of the table, the words of the run, and what sides offer
+// together.
 use columns::Payloads;
 use columns::set_of;
 use control::ENTERED;
@@ -14,38 +14,27 @@ use control::TERM;
 use control::UNTOUCHED;
 use control::word;
 use frames::TERM_ROOM;
+use offering::Offered;
+use offering::combined;
+use offering::own;
+use offering::settled;
+use offering::unseen;
 use plans::EXTERNAL_WORD;
 use plans::PARALLEL_WORD;
-use plans::PREFIX_WORD;
 use plans::Plan;
 use plans::SEQUENCE_WORD;
-use plans::SKIP_WORD;
 use plans::around_of;
 use plans::kind_of;
 use plans::operand_of;
 use plans::second_of;
 use rules::CELL_ROOM;
-use rules::Status;
-use sets::either;
-use sets::empty;
-use sets::only;
-use sets::shared;
 ghost use mathlib.Core.Path.{_≡_};
 ghost use mathlib.Core.Bool.{_&&_};
-ghost use Prim.Native.Nat.{ℕ};
 ghost use Rattle.rules.specs.Process.{Process};
-ghost use Rattle.rules.specs.Offers.{status};
 ghost use Rattle.plans.specs.words.Plan.{Layout};
-ghost use Rattle.offers.specs.code.Offering as code;
-ghost use Rattle.offers.specs.code.Offering.{seen};
-ghost use Rattle.offers.specs.words.Told.{Low, Controls, TellsOffers, Covers};
-
-// Whether τ and ✓ are offered, and which events.
-pub struct Offered {
-    pub tau: bool,
-    pub tick: bool,
-    pub events: u64,
-}
+ghost use Rattle.offering.specs.code.Offering.{seen};
+ghost use Rattle.offers.specs.code.Following as code;
+ghost use Rattle.offers.specs.words.Told.{Low, Controls, TellsOffers};
 
 // A path has at most 64 digits, so a term has at most 65 levels.
 const OFFER_LEVELS: usize = 65;
@@ -61,30 +50,6 @@ pub fn offers(reference: usize, plan: &Plan, sets: &Payloads, nodes: &Nodes) -> 
         return unseen(true, false);
     }
     offers_at(reference, 0, 0, CELL_ROOM, plan, sets, nodes)
-}
-
-// The status of a run at a reference.
-pub fn status_at(reference: usize, plan: &Plan, sets: &Payloads, nodes: &Nodes) -> Status
-    ensures { λ r. ⌜ r ≡ code.status
-        (now (plan .entry)) (now (sets .entry)) (now (nodes .entry)) reference ⌝ }
-    ensures { λ r. ⌜ ((l : Layout) (P : Process) (e : ℕ) → Low l
-        → Controls l (now (plan .entry)) (now (sets .entry)) (now (nodes .entry)) reference P
-        → Covers e P → r ≡ status e P) ⌝ }
-{
-    if ended(reference, nodes) {
-        return Status::Ended;
-    }
-    let offered = offers(reference, plan, sets, nodes);
-    if offered.tau {
-        return Status::Live;
-    }
-    if offered.tick {
-        return Status::Live;
-    }
-    if empty(offered.events) {
-        return Status::Stuck;
-    }
-    Status::Live
 }
 
 // What is offered by what stands at reference n, inside sequences up to a bound; at reference 0 by a side that
@@ -158,67 +123,6 @@ fn offers_of_term(t: usize, left: usize, plan: &Plan, sets: &Payloads) -> Offere
     combined(kind, set_of(t, sets), false, l, r)
 }
 
-// What a term offers by its own kind: a prefix its event, SKIP ✓, a call, STOP and an internal choice τ.
-fn own(kind: usize, operand: usize) -> Offered
-    ensures { λ r. ⌜ seen r ≡ code.own kind operand ⌝ }
-{
-    if kind == PREFIX_WORD {
-        return Offered {
-            tau: false,
-            tick: false,
-            events: only((operand % 256) as u8),
-        };
-    }
-    if kind == SKIP_WORD {
-        return unseen(false, true);
-    }
-    unseen(true, false)
-}
-
-// What two sides offer: a choice what either does; a parallel the events that its set lets pass, τ for a side's
-// τ or ✓, and ✓ where both have ended.
-fn combined(kind: usize, set: u64, both: bool, l: Offered, r: Offered) -> Offered
-    ensures { λ o. ⌜ seen o ≡ code.combined kind set both (seen l) (seen r) ⌝ }
-{
-    if kind == PARALLEL_WORD {
-        return Offered {
-            tau: (l.tau | l.tick) | (r.tau | r.tick),
-            tick: both,
-            events: shared(set, l.events, r.events),
-        };
-    }
-    Offered {
-        tau: l.tau | r.tau,
-        tick: l.tick | r.tick,
-        events: either(l.events, r.events),
-    }
-}
-
-// ✓ told as τ where a sequence is around.
-fn settled(nested: bool, o: Offered) -> Offered
-    ensures { λ r. ⌜ seen r ≡ code.settled nested (seen o) ⌝ }
-{
-    if nested {
-        return Offered {
-            tau: o.tau | o.tick,
-            tick: false,
-            events: o.events,
-        };
-    }
-    o
-}
-
-// No visible event.
-fn unseen(tau: bool, tick: bool) -> Offered
-    ensures { λ r. ⌜ seen r ≡ code.unseen tau tick ⌝ }
-{
-    Offered {
-        tau: tau,
-        tick: tick,
-        events: 0,
-    }
-}
-
 // Whether a sequence is around the term that stands at reference n, up to a bound.
 fn followed(n: usize, term: usize, bound: usize, plan: &Plan, nodes: &Nodes) -> bool
     ensures { λ r. ⌜ r ≡ code.followed (now (plan .entry)) (now (nodes .entry)) n term bound ⌝ }
@@ -253,7 +157,7 @@ fn both_ended(first: usize, second: usize, nodes: &Nodes) -> bool
 }
 
 // Whether what stands at a reference is Ω.
-fn ended(n: usize, nodes: &Nodes) -> bool
+pub fn ended(n: usize, nodes: &Nodes) -> bool
     ensures { λ r. ⌜ r ≡ code.ended (now (nodes .entry)) n ⌝ }
 {
     if n == 0 {

@@ -9,7 +9,7 @@ use Rattle.lines.specs.Line.{choose, Raw, lines, text}
 use Rattle.scripts.specs.Script as Script
 use Rattle.plans.specs.code.Laid.{laid-out}
 use Rattle.rules.specs.declared.Event.{Event}
-use Rattle.offers.specs.code.Offering as offers
+use Rattle.status.specs.code.Status.{status}
 use Rattle.runs.specs.code.Doors as run
 use Rattle.playing.specs.code.Playing as plays
 use Rattle.counting.specs.code.Counting.{reference}
@@ -90,7 +90,7 @@ module _ (p x ks os xs rs : List ℕ) where
   unfoldable pub stopped-text : Stopped → List ℕ
   stopped-text z =
       text (map step-frame (z .events))
-      ++ text (status-frame (offers.status p x (z .nodes) (reference (z .counters))) ∷ [])
+      ++ text (status-frame (status p x (z .nodes) (reference (z .counters))) ∷ [])
       ++ stop-text (z .number) (z .line)
       ++ within-room (text-of ks os xs rs (z .nodes) (z .track) (z .counters))
 

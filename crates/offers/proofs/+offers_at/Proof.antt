@@ -11,14 +11,14 @@ use Rattle.offers.proofs.offers_at.Kinds as offers-at-kinds
 use Rattle.offers.proofs.+offers_at.Lts-offers_at as offers-at-lts
 use Rattle.control.proofs.word.Reads as word-reads
 use Rattle.offers.proofs.both_ended.Reads as both-ended-reads
-use Rattle.offers.proofs.combined.Reads as combined-reads
+use Rattle.offering.proofs.combined.Reads as combined-reads
 use Rattle.offers.proofs.first_of.Reads as first-of-reads
 use Rattle.offers.proofs.followed.Reads as followed-reads
 use Rattle.offers.proofs.inside.Reads as inside-reads
 use Rattle.offers.proofs.offers_of_term.Reads as offers-of-term-reads
 use Rattle.columns.proofs.set_of.Reads as set-of-reads
-use Rattle.offers.proofs.settled.Reads as settled-reads
-use Rattle.offers.proofs.unseen.Reads as unseen-reads
+use Rattle.offering.proofs.settled.Reads as settled-reads
+use Rattle.offering.proofs.unseen.Reads as unseen-reads
 use Rattle.plans.proofs.kind_of.Reads as kind-of-reads
 use Rattle.plans.proofs.second_of.Reads as second-of-reads
 use Rattle.offers.proofs.+offers_at.{statement}

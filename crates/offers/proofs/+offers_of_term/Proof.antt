@@ -8,12 +8,12 @@ use borrow.Fn.PlainCycle.{Measures, is, falls, and}
 use Rattle.offers.proofs.offers_of_term.Reads as offers-of-term
 use Rattle.offers.proofs.offers_of_term.Kinds as offers-of-term-kinds
 use Rattle.offers.proofs.+offers_of_term.Lts-offers_of_term as offers-of-term-lts
-use Rattle.offers.proofs.combined.Reads as combined-reads
+use Rattle.offering.proofs.combined.Reads as combined-reads
 use Rattle.offers.proofs.first_of.Reads as first-of-reads
-use Rattle.offers.proofs.own.Reads as own-reads
+use Rattle.offering.proofs.own.Reads as own-reads
 use Rattle.columns.proofs.set_of.Reads as set-of-reads
-use Rattle.offers.proofs.settled.Reads as settled-reads
-use Rattle.offers.proofs.unseen.Reads as unseen-reads
+use Rattle.offering.proofs.settled.Reads as settled-reads
+use Rattle.offering.proofs.unseen.Reads as unseen-reads
 use Rattle.plans.proofs.kind_of.Reads as kind-of-reads
 use Rattle.plans.proofs.operand_of.Reads as operand-of-reads
 use Rattle.plans.proofs.second_of.Reads as second-of-reads

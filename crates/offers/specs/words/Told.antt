@@ -1,19 +1,18 @@
--- What the answers are of a control that the words of a run hold: its offers and its status, by document 01's
--- account in `Offers` of rules.
-use Prim.Native.Nat.{ℕ, _≤_, _<_}
+-- What the answers are of a control that the words of a run hold: its offers, by document 01's account in `Offers`
+-- of rules.
+use Prim.Native.Nat.{ℕ, _≤_}
 use mathlib.Core.Path.{_≡_}
-use mathlib.Core.Bool.{true}
 use mathlib.Core.List.{List, []}
 use lib.ListN.{length}
 use Rattle.sets.specs.EventSet.{member}
-use Rattle.frames.specs.TableFrame.{path-room, event-room}
+use Rattle.frames.specs.TableFrame.{path-room}
 use Rattle.rules.specs.Process.{Process, main, cells}
 use Rattle.rules.specs.Run.{cell-room}
 use Rattle.rules.specs.Offers.{offers-τ, offers-✓, offers-event}
 use Rattle.plans.specs.words.Plan.{Layout}
 use Rattle.control.specs.words.Control.{HoldsControl}
-use Rattle.offers.specs.declared.Offered.{Offered}
-use Rattle.offers.specs.code.Offering.{Offer}
+use Rattle.offering.specs.declared.Offered.{Offered}
+use Rattle.offering.specs.code.Offering.{Offer}
 
 -- what a control offers
 abbrev pub offer-of : Process → Offer
@@ -34,8 +33,3 @@ pub record TellsOffers (r : Offered) (P : Process) : Type 0 where
   pub tau-is : r .tau ≡ offers-τ P
   pub tick-is : r .tick ≡ offers-✓ P
   pub events-are : (k : ℕ) → member k (r .events) ≡ offers-event k P
-
--- a count of events that a table may have, which covers what a control offers
-pub record Covers (e : ℕ) (P : Process) : Type 0 where
-  pub in-room : e ≤ event-room
-  pub all-below : (k : ℕ) → offers-event k P ≡ true → k < e

@@ -1,11 +1,11 @@
--- `offers::status_at` meets its contract: at Ω, or by what is offered: τ, ✓, no event, or some. Assumes
+-- `status::status_at` meets its contract: at Ω, or by what is offered: τ, ✓, no event, or some. Assumes
 -- nothing.
 use mathlib.Core.Path.{sym, _∙_}
 use borrow.Author.Needs.{needs}
-use Rattle.offers.proofs.Returns.{status-ended, status-tau, status-tick, status-stuck, status-event}
-use Rattle.offers.proofs.Runs.{promised}
-use Rattle.offers.proofs.status_at.Statement.{statement}
-use Rattle.offers.proofs.status_at.Tie as tie
+use Rattle.status.proofs.Returns.{status-ended, status-tau, status-tick, status-stuck, status-event}
+use Rattle.status.proofs.Runs.{promised}
+use Rattle.status.proofs.status_at.Statement.{statement}
+use Rattle.status.proofs.status_at.Tie as tie
 
 ended-requires : tie.Need-ended-requires
 ended-requires c κs = search needs

@@ -1,9 +1,9 @@
--- `offers::own` meets its contract, by the kind. Assumes nothing.
+-- `offering::own` meets its contract, by the kind. Assumes nothing.
 use mathlib.Core.Path.{_∙_}
-use Rattle.offers.proofs.Returns.{own-event, own-tick, own-tau}
+use Rattle.offering.proofs.Returns.{own-event, own-tick, own-tau}
 use borrow.Author.Needs.{needs}
-use Rattle.offers.proofs.own.Statement.{statement}
-use Rattle.offers.proofs.own.Tie as tie
+use Rattle.offering.proofs.own.Statement.{statement}
+use Rattle.offering.proofs.own.Tie as tie
 
 cast-only : tie.Need-cast-only
 cast-only c = search needs

@@ -1,69 +1,18 @@
 -- What following a control and its terms downward computes, whatever the words hold, in at most so many levels.
 -- `proofs/Standing.antt` shows that it is what the control offers where the words hold one.
-use Prim.Native.Nat.{ℕ, zero, suc, _+_, _%_}
+use Prim.Native.Nat.{ℕ, zero, suc, _+_}
 use mathlib.Core.Bool.{Bool, true, false, _&&_, _||_, not}
 use mathlib.Core.List.{List}
 use lib.Dec.{ltb, eqb}
 use Rattle.lines.specs.Line.{choose}
-use Rattle.sets.specs.EventSet.{member}
-use Rattle.frames.specs.TableFrame.{term-room, event-room}
+use Rattle.frames.specs.TableFrame.{term-room}
 use Rattle.kinds.specs.Kind as Kind
 use Rattle.columns.specs.words.Columns.{look}
 use Rattle.rules.specs.Run.{cell-room}
 use Rattle.plans.specs.words.Plan.{kind, operand, second, around}
 use Rattle.control.specs.words.Control.{state, term, frame, first, second-side, resting, entered, at-end}
 use Rattle.control.specs.words.Control.{beyond}
-use Rattle.offers.specs.declared.Offered.{Offered}
-use Rattle.rules.specs.declared.Status.{Status}
-use Rattle.rules.specs.declared.Status.the-variants.{Live, Ended, Stuck}
-
--- what is offered: whether τ is, whether ✓ is, and whether each event is
-pub record Offer : Type 0 where
-  pub tau : Bool
-  pub tick : Bool
-  pub event : ℕ → Bool
-
--- what an answer says
-abbrev pub seen : Offered → Offer
-seen r = record { tau = r .tau; tick = r .tick; event = λ k. member k (r .events) }
-
--- no visible event
-abbrev pub unseen : Bool → Bool → Offer
-unseen a b = record { tau = a; tick = b; event = λ k. false }
-
--- one event
-abbrev pub one-event : ℕ → Offer
-one-event e = record { tau = false; tick = false; event = λ k. ltb e event-room && eqb k e }
-
--- by its own kind and operand, a prefix offers its event, SKIP ✓, and a call, STOP and an internal choice τ
-unfoldable pub own : ℕ → ℕ → Offer
-own k e =
-    choose (eqb k Kind.prefix) (one-event (e % 256))
-    (choose (eqb k Kind.SKIP) (unseen false true) (unseen true false))
-
--- ✓ told as τ, where a sequence is around
-unfoldable pub settled : Bool → Offer → Offer
-settled true o = record { tau = o .tau || o .tick; tick = false; event = o .event }
-settled false o = o
-
--- what two sides offer: a choice what either does; a parallel with set x the events that x lets pass, τ for a
--- side's τ or ✓, and ✓ where both have ended
-abbrev pub chosen : Offer → Offer → Offer
-chosen l r = record {
-  tau = l .tau || r .tau;
-  tick = l .tick || r .tick;
-  event = λ k. l .event k || r .event k;
-}
-
-abbrev pub side-by-side : ℕ → Bool → Offer → Offer → Offer
-side-by-side x both l r = record {
-  tau = (l .tau || l .tick) || (r .tau || r .tick);
-  tick = both;
-  event = λ k. choose (member k x) (l .event k && r .event k) (l .event k || r .event k);
-}
-
-unfoldable pub combined : ℕ → ℕ → Bool → Offer → Offer → Offer
-combined k x both l r = choose (eqb k Kind.parallel) (side-by-side x both l r) (chosen l r)
+use Rattle.offering.specs.code.Offering.{Offer, unseen, own, settled, combined}
 
 -- a term by its kind, its operand, its set and what its subterms offer
 unfoldable pub by-kind : ℕ → ℕ → ℕ → Offer → Offer → Offer
@@ -120,15 +69,3 @@ at (suc f) p x w n t b =
 -- starts by a call
 unfoldable pub offered : List ℕ → List ℕ → List ℕ → ℕ → Offer
 offered p x w n = choose (eqb n 0) (unseen true false) (at cell-room p x w n 0 0)
-
--- one of the first n events passes a test
-unfoldable pub some-of : ℕ → (ℕ → Bool) → Bool
-some-of zero test = false
-some-of (suc n) test = test n || some-of n test
-
--- the status of what is at Ω or not, and offers
-unfoldable pub standing : Bool → Offer → Status
-standing b o = choose b Ended (choose (o .tau || (o .tick || some-of event-room (o .event))) Live Stuck)
-
-unfoldable pub status : List ℕ → List ℕ → List ℕ → ℕ → Status
-status p x w n = standing (ended w n) (offered p x w n)

@@ -1,8 +1,8 @@
--- `offers::combined` meets its contract: of a parallel, and of a choice. Assumes nothing.
-use Rattle.offers.proofs.Returns.{combined-parallel, combined-choice}
+-- `offering::combined` meets its contract: of a parallel, and of a choice. Assumes nothing.
+use Rattle.offering.proofs.Returns.{combined-parallel, combined-choice}
 use borrow.Author.Needs.{needs}
-use Rattle.offers.proofs.combined.Statement.{statement}
-use Rattle.offers.proofs.combined.Tie as tie
+use Rattle.offering.proofs.combined.Statement.{statement}
+use Rattle.offering.proofs.combined.Tie as tie
 
 shared-requires : tie.Need-shared-requires
 shared-requires c κs = search needs

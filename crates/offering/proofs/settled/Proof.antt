@@ -1,7 +1,7 @@
--- `offers::settled` meets its contract: with a sequence around, and with none. Assumes nothing.
-use Rattle.offers.proofs.Returns.{settled-nested, settled-bare}
-use Rattle.offers.proofs.settled.Statement.{statement}
-use Rattle.offers.proofs.settled.Tie as tie
+-- `offering::settled` meets its contract: with a sequence around, and with none. Assumes nothing.
+use Rattle.offering.proofs.Returns.{settled-nested, settled-bare}
+use Rattle.offering.proofs.settled.Statement.{statement}
+use Rattle.offering.proofs.settled.Tie as tie
 
 returns : tie.Need-returns
 returns c = settled-nested (c .before .before .args .o) _ (c .before .if1 .taken)

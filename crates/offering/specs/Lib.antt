@@ -1,0 +1,2 @@
+-- What is offered, as a value. Below: `code`, mirrors of code.
+pub mod code

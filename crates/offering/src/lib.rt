@@ -1,0 +1,80 @@
+// What is offered, as a value: whether τ and ✓ are, and which events; what a term offers by its own kind, what two sides
+// offer together, and ✓ told as τ. No words are read. It relies on sets of events, and on the numbers that a plan has for
+// kinds.
+use plans::PARALLEL_WORD;
+use plans::PREFIX_WORD;
+use plans::SKIP_WORD;
+use sets::either;
+use sets::only;
+use sets::shared;
+ghost use mathlib.Core.Path.{_≡_};
+ghost use Rattle.offering.specs.code.Offering as code;
+ghost use Rattle.offering.specs.code.Offering.{seen};
+
+// Whether τ and ✓ are offered, and which events.
+pub struct Offered {
+    pub tau: bool,
+    pub tick: bool,
+    pub events: u64,
+}
+
+// What a term offers by its own kind: a prefix its event, SKIP ✓, a call, STOP and an internal choice τ.
+pub fn own(kind: usize, operand: usize) -> Offered
+    ensures { λ r. ⌜ seen r ≡ code.own kind operand ⌝ }
+{
+    if kind == PREFIX_WORD {
+        return Offered {
+            tau: false,
+            tick: false,
+            events: only((operand % 256) as u8),
+        };
+    }
+    if kind == SKIP_WORD {
+        return unseen(false, true);
+    }
+    unseen(true, false)
+}
+
+// What two sides offer: a choice what either does; a parallel the events that its set lets pass, τ for a side's
+// τ or ✓, and ✓ where both have ended.
+pub fn combined(kind: usize, set: u64, both: bool, l: Offered, r: Offered) -> Offered
+    ensures { λ o. ⌜ seen o ≡ code.combined kind set both (seen l) (seen r) ⌝ }
+{
+    if kind == PARALLEL_WORD {
+        return Offered {
+            tau: (l.tau | l.tick) | (r.tau | r.tick),
+            tick: both,
+            events: shared(set, l.events, r.events),
+        };
+    }
+    Offered {
+        tau: l.tau | r.tau,
+        tick: l.tick | r.tick,
+        events: either(l.events, r.events),
+    }
+}
+
+// ✓ told as τ where a sequence is around.
+pub fn settled(nested: bool, o: Offered) -> Offered
+    ensures { λ r. ⌜ seen r ≡ code.settled nested (seen o) ⌝ }
+{
+    if nested {
+        return Offered {
+            tau: o.tau | o.tick,
+            tick: false,
+            events: o.events,
+        };
+    }
+    o
+}
+
+// No visible event.
+pub fn unseen(tau: bool, tick: bool) -> Offered
+    ensures { λ r. ⌜ seen r ≡ code.unseen tau tick ⌝ }
+{
+    Offered {
+        tau: tau,
+        tick: tick,
+        events: 0,
+    }
+}
