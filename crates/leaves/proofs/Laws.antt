@@ -26,7 +26,11 @@ use Rattle.leaves.specs.declared.Taken.{Taken}
 
 -- a step comes to d, with words w and g after it
 abbrev pub Comes : Taken → List ℕ → List ℕ → Done → Type 0
-Comes d w g e = (d ≡ e .taken) × ((w ≡ e .nodes) × (g ≡ e .track))
+Comes d w g e = with-words d w g ≡ e
+
+-- told part by part
+pub comes : {d d′ : Taken} {w w′ g g′ : List ℕ} → d ≡ d′ → w ≡ w′ → g ≡ g′ → Comes d w g (with-words d′ w′ g′)
+comes d-is w-is g-is = rw (d-is, w-is, g-is)
 
 -- a reference is labelled, and gets an arc to a fresh one
 module _ (n mark : ℕ) (k l j : Tally) (w v g h : List ℕ) (counts : (l ≡ one-node k) × (v ≡ labelled n mark w))
@@ -45,14 +49,14 @@ module _ (n mark : ℕ) (k l j : Tally) (w v g h : List ℕ) (counts : (l ≡ on
       → Comes y x h (single e n s t u f at size k w g)
   unfolding single
   single-made t mark-is e s u f at size x y x-is y-is =
-      (rw (y-is, tally-on), (rw (x-is, counts .1, mark-is), arc-on))
+      comes (rw (y-is, tally-on)) (rw (x-is, counts .1, mark-is)) arc-on
 
   -- the start's call
   pub called-made : n ≡ 0 → mark ≡ start-mark → (x : List ℕ) (y : Taken)
       → x ≡ standing (k .fresh) resting 0 0 v → y ≡ come Tau (k .fresh) 1 0 j → Comes y x h (called k w g)
   unfolding called
   called-made n-is mark-is x y x-is y-is =
-      (rw (y-is, tally-on), (rw (x-is, counts .1, n-is, mark-is), rw n-is at arc-on))
+      comes (rw (y-is, tally-on)) (rw (x-is, counts .1, n-is, mark-is)) (rw n-is at arc-on)
 
   -- a sequence starts its right
   pub start-made : (p : List ℕ) (d : Taken) → k ≡ d .tally → n ≡ d .reference → (t : ℕ) → mark ≡ own-mark t
@@ -77,13 +81,11 @@ module _ (n em om : ℕ) (k l j l′ j′ i : Tally) (w v u g h h′ z : List �
   prefix-made t em-is om-is f e at size s x y s-is x-is y-is =
       let first = tally-on n em k l j w v g h counts draws in
       let second-on = tally-on (k .fresh) om j l′ j′ v u h h′ counts′ draws′ ∙ ap on first in
-      let arc = arc-on (k .fresh) om j l′ j′ v u h h′ counts′ draws′ in (
-        rw (y-is, keeps .0, second-on, first),
-        (
-          rw (x-is, s-is, counts′ .1, counts .1, om-is, em-is, first),
-          rw (keeps .1, second-on, arc, arc-on n em k l j w v g h counts draws, first),
-        ),
-      )
+      let arc = arc-on (k .fresh) om j l′ j′ v u h h′ counts′ draws′ in
+      comes
+      (rw (y-is, keeps .0, second-on, first))
+      (rw (x-is, s-is, counts′ .1, counts .1, om-is, em-is, first))
+      (rw (keeps .1, second-on, arc, arc-on n em k l j w v g h counts draws, first))
 
 -- what a step comes to inside the sequences around term t
 module _ (p : List ℕ) (d : Taken) (t f b : ℕ) (w g : List ℕ) where
@@ -95,13 +97,13 @@ module _ (p : List ℕ) (d : Taken) (t f b : ℕ) (w g : List ℕ) where
 
   pub settled-on : Tagged (d .event) 0 2 → Comes d w g (settled p d t f b w g)
   unfolding settled
-  settled-on h = rw (← unless-tick (d .event) h) (refl, (refl, refl))
+  settled-on = unless-tick (d .event)
 
   module _ (ticks : d .event ≡ Tick) (o : ℕ) (around-is : o ≡ around p t) where
     pub settled-last : o ≡ 0 → f ≡ b → Comes d w g (settled p d t f b w g)
     unfolding settled by-event ends
     settled-last none last =
-        rw ticks (simp (eq-eqb (around p t) 0 (sym around-is ∙ none), eq-eqb f b last) (refl, (refl, refl)))
+        rw ticks (simp (eq-eqb (around p t) 0 (sym around-is ∙ none), eq-eqb f b last) refl)
 
     module _ (y : Taken) (x h : List ℕ) (m : ℕ) where
       pub settled-plan : (o ≡ 0 → ⊥) → m ≡ o - 1 → Comes y x h (started p d m f w g)
@@ -141,7 +143,7 @@ module _ (p : List ℕ) (n b at size d : ℕ) (k : Tally) (w g : List ℕ) (t f 
     unfolding leaf after-settling
     leaf-SKIP is e y v h x z made so =
         simp (kind-there, ne-eqb c Kind.prefix no-prefix, eq-eqb c Kind.SKIP is)
-        (rw (made .0, made .1 .0, made .1 .1, t-is, f-is) at so)
+        (rw (t-is, f-is) at (so ∙ ap (after-settling p t f b) made))
 
     module _ (no-SKIP : c ≡ Kind.SKIP → ⊥) (y : Taken) (x z : List ℕ) where
       pub leaf-STOP : c ≡ Kind.STOP → Comes y x z (single Tau n dead t t f at size k w g) → Comes y x z Leaf

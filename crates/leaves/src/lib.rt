@@ -48,9 +48,8 @@ pub struct Taken {
 
 // The start's call, at reference 0: its node is labelled with the left-hand side of definition 00, whose root is term 0.
 pub fn call_start(tally: Tally, nodes: &mut Nodes, track: &mut Track) -> Taken
-    ensures { λ r. ⌜ r ≡ spec.called tally (now (nodes .entry)) (now (track .entry)) .taken ⌝ }
-    ensures { λ _. ⌜ now (nodes .exit) ≡ spec.called tally (now (nodes .entry)) (now (track .entry)) .nodes ⌝ }
-    ensures { λ _. ⌜ now (track .exit) ≡ spec.called tally (now (nodes .entry)) (now (track .entry)) .track ⌝ }
+    ensures { λ r. ⌜ spec.with-words r (now (nodes .exit)) (now (track .exit))
+        ≡ spec.called tally (now (nodes .entry)) (now (track .entry)) ⌝ }
 {
     let next = tally.fresh;
     let drawn = draw(0, label(0, START_MARK, tally, nodes), track);
@@ -70,9 +69,8 @@ pub fn take_leaf(
     nodes: &mut Nodes,
     track: &mut Track,
 ) -> Taken
-    ensures { λ r. ⌜ r ≡ spec.leaf (now (plan .entry)) n bound at size digit tally (now (nodes .entry)) (now (track .entry)) .taken ⌝ }
-    ensures { λ _. ⌜ now (nodes .exit) ≡ spec.leaf (now (plan .entry)) n bound at size digit tally (now (nodes .entry)) (now (track .entry)) .nodes ⌝ }
-    ensures { λ _. ⌜ now (track .exit) ≡ spec.leaf (now (plan .entry)) n bound at size digit tally (now (nodes .entry)) (now (track .entry)) .track ⌝ }
+    ensures { λ r. ⌜ spec.with-words r (now (nodes .exit)) (now (track .exit))
+        ≡ spec.leaf (now (plan .entry)) n bound at size digit tally (now (nodes .entry)) (now (track .entry)) ⌝ }
 {
     let t = word(n, TERM, nodes);
     let frame = word(n, FRAME, nodes);
@@ -115,9 +113,8 @@ fn take_prefix(
     nodes: &mut Nodes,
     track: &mut Track,
 ) -> Taken
-    ensures { λ r. ⌜ r ≡ spec.prefix n t frame event at size tally (now (nodes .entry)) (now (track .entry)) .taken ⌝ }
-    ensures { λ _. ⌜ now (nodes .exit) ≡ spec.prefix n t frame event at size tally (now (nodes .entry)) (now (track .entry)) .nodes ⌝ }
-    ensures { λ _. ⌜ now (track .exit) ≡ spec.prefix n t frame event at size tally (now (nodes .entry)) (now (track .entry)) .track ⌝ }
+    ensures { λ r. ⌜ spec.with-words r (now (nodes .exit)) (now (track .exit))
+        ≡ spec.prefix n t frame event at size tally (now (nodes .entry)) (now (track .entry)) ⌝ }
 {
     let arrow = tally.fresh;
     let first = draw(n, label(n, event_mark(t), tally, nodes), track);
@@ -139,9 +136,8 @@ pub fn take_end(
     nodes: &mut Nodes,
     track: &mut Track,
 ) -> Taken
-    ensures { λ r. ⌜ r ≡ spec.end (now (plan .entry)) n bound at size tally (now (nodes .entry)) (now (track .entry)) .taken ⌝ }
-    ensures { λ _. ⌜ now (nodes .exit) ≡ spec.end (now (plan .entry)) n bound at size tally (now (nodes .entry)) (now (track .entry)) .nodes ⌝ }
-    ensures { λ _. ⌜ now (track .exit) ≡ spec.end (now (plan .entry)) n bound at size tally (now (nodes .entry)) (now (track .entry)) .track ⌝ }
+    ensures { λ r. ⌜ spec.with-words r (now (nodes .exit)) (now (track .exit))
+        ≡ spec.end (now (plan .entry)) n bound at size tally (now (nodes .entry)) (now (track .entry)) ⌝ }
 {
     let next = tally.fresh;
     let first = word(n, SIDES + 1, nodes);
@@ -165,9 +161,8 @@ pub fn settle(
     nodes: &mut Nodes,
     track: &mut Track,
 ) -> Taken
-    ensures { λ r. ⌜ r ≡ spec.settled (now (plan .entry)) done t frame bound (now (nodes .entry)) (now (track .entry)) .taken ⌝ }
-    ensures { λ _. ⌜ now (nodes .exit) ≡ spec.settled (now (plan .entry)) done t frame bound (now (nodes .entry)) (now (track .entry)) .nodes ⌝ }
-    ensures { λ _. ⌜ now (track .exit) ≡ spec.settled (now (plan .entry)) done t frame bound (now (nodes .entry)) (now (track .entry)) .track ⌝ }
+    ensures { λ r. ⌜ spec.with-words r (now (nodes .exit)) (now (track .exit))
+        ≡ spec.settled (now (plan .entry)) done t frame bound (now (nodes .entry)) (now (track .entry)) ⌝ }
 {
     let event = done.event;
     let Event::Tick = event else {
@@ -194,9 +189,8 @@ fn start(
     nodes: &mut Nodes,
     track: &mut Track,
 ) -> Taken
-    ensures { λ r. ⌜ r ≡ spec.started (now (plan .entry)) done k frame (now (nodes .entry)) (now (track .entry)) .taken ⌝ }
-    ensures { λ _. ⌜ now (nodes .exit) ≡ spec.started (now (plan .entry)) done k frame (now (nodes .entry)) (now (track .entry)) .nodes ⌝ }
-    ensures { λ _. ⌜ now (track .exit) ≡ spec.started (now (plan .entry)) done k frame (now (nodes .entry)) (now (track .entry)) .track ⌝ }
+    ensures { λ r. ⌜ spec.with-words r (now (nodes .exit)) (now (track .exit))
+        ≡ spec.started (now (plan .entry)) done k frame (now (nodes .entry)) (now (track .entry)) ⌝ }
 {
     let last = done.reference;
     let tally = done.tally;

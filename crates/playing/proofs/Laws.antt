@@ -13,7 +13,7 @@ use Rattle.scripts.specs.declared.ScriptStep.{ScriptStep}
 use Rattle.scripts.specs.declared.ScriptStep.the-variants as Lines
 use Rattle.scripts.proofs.ScriptStep.{enum}
 use Rattle.runs.specs.code.Doors.{stepped}
-use Rattle.playing.specs.code.Playing.{Line-played, of-answer, without-step, unplayed, step-played}
+use Rattle.playing.specs.code.Playing.{Line-played, with-played, of-answer, without-step, unplayed, step-played}
 use Rattle.playing.specs.code.Playing.{by-line, played}
 use Rattle.runs.specs.declared.Answer.{Answer}
 use Rattle.runs.specs.declared.Answer.the-variants.{Accepted, Refused}
@@ -34,9 +34,7 @@ module _ (p x w g c : List ℕ) (at : ℕ) (ls : List Raw) (ds es : List ℕ) (l
 
   -- the line comes to r, with words v, h and k after it
   abbrev pub Told : Played → List ℕ → List ℕ → List ℕ → Type 0
-  Told r v h k =
-      (r ≡ Whole .played) × ((v ≡ Whole .nodes) × ((h ≡ Whole .track)
-      × ((k ≡ Whole .counters) × (es ≡ sets ds 0 (Script.left ls)))))
+  Told r v h k = (with-played r v h k ≡ Whole) × (es ≡ sets ds 0 (Script.left ls))
 
   line-by : (s : ScriptStep) → line ≡ s → Whole ≡ by-line p x w g c s es
   unfolding played
@@ -50,13 +48,13 @@ module _ (p x w g c : List ℕ) (at : ℕ) (ls : List Raw) (ds es : List ℕ) (l
 
   pub no-step-played : Other line → (r : Played) → r ≡ without-step line → Told r w g c
   no-step-played h r r-is =
-      rw (r-is, line-by line refl, without line h) (refl, (refl, (refl, (refl, reads .1))))
+      (rw (r-is, line-by line refl, without line h), reads .1)
 
   module _ (n next : ℕ) (asks : line ≡ Lines.Address n next) (a : Answer) (v h k : List ℕ)
       (so : Steps a v h k (stepped p x n es w g c)) where
     answered : Told (of-answer next a) v h k
     unfolding by-line step-played
-    answered = rw (line-by _ asks, so .0) (refl, (so .1 .0, (so .1 .1 .0, (so .1 .1 .1, reads .1))))
+    answered = (rw (line-by _ asks, ← so), reads .1)
 
     pub refused-played : (m : ℕ) → a ≡ Refused m → Told (Plays.Refused m) v h k
     unfolding of-answer

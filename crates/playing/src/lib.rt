@@ -36,14 +36,9 @@ pub fn play(
     track: &mut Track,
     counters: &mut Counters,
 ) -> Played
-    ensures { λ r. ⌜ r ≡ spec.played (now (plan .entry)) (now (sets .entry)) (now (nodes .entry))
-        (now (track .entry)) (now (counters .entry)) at (lines (drop at (now (text .entry)))) (now (digits .entry)) .played ⌝ }
-    ensures { λ _. ⌜ now (nodes .exit) ≡ spec.played (now (plan .entry)) (now (sets .entry)) (now (nodes .entry))
-        (now (track .entry)) (now (counters .entry)) at (lines (drop at (now (text .entry)))) (now (digits .entry)) .nodes ⌝ }
-    ensures { λ _. ⌜ now (track .exit) ≡ spec.played (now (plan .entry)) (now (sets .entry)) (now (nodes .entry))
-        (now (track .entry)) (now (counters .entry)) at (lines (drop at (now (text .entry)))) (now (digits .entry)) .track ⌝ }
-    ensures { λ _. ⌜ now (counters .exit) ≡ spec.played (now (plan .entry)) (now (sets .entry)) (now (nodes .entry))
-        (now (track .entry)) (now (counters .entry)) at (lines (drop at (now (text .entry)))) (now (digits .entry)) .counters ⌝ }
+    ensures { λ r. ⌜ spec.with-played r (now (nodes .exit)) (now (track .exit)) (now (counters .exit))
+        ≡ spec.played (now (plan .entry)) (now (sets .entry)) (now (nodes .entry)) (now (track .entry))
+        (now (counters .entry)) at (lines (drop at (now (text .entry)))) (now (digits .entry)) ⌝ }
     ensures { λ _. ⌜ now (digits .exit)
         ≡ seq.sets (now (digits .entry)) 0 (left (lines (drop at (now (text .entry))))) ⌝ }
 {

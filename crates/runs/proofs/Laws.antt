@@ -16,7 +16,7 @@ use Rattle.drawing.specs.declared.Tally.{Tally}
 use Rattle.leaves.specs.declared.Taken.{Taken}
 use Rattle.leaves.proofs.Laws.{Comes}
 use Rattle.counting.specs.code.Counting.{reference, cells, arcs, over-room, tally-of, recounted}
-use Rattle.runs.specs.code.Doors.{start-weight, control-levels, step-levels, weight, performed, Stepped}
+use Rattle.runs.specs.code.Doors.{start-weight, control-levels, step-levels, weight, performed, Stepped, with-answer}
 use Rattle.runs.specs.code.Doors.{accepted, by-room, by-weight, stepped}
 use Rattle.runs.specs.declared.Answer.{Answer}
 use Rattle.runs.specs.declared.Answer.the-variants.{Accepted, Refused}
@@ -51,7 +51,7 @@ module _ (p : List ℕ) (count : ℕ) (ds w g c : List ℕ) (n : ℕ) (n-is : n 
 
 -- a step answers a, with words w, g and c after it
 abbrev pub Steps : Answer → List ℕ → List ℕ → List ℕ → Stepped → Type 0
-Steps a w g c s = (a ≡ s .answer) × ((w ≡ s .nodes) × ((g ≡ s .track) × (c ≡ s .counters)))
+Steps a w g c s = with-answer a w g c ≡ s
 
 -- a step by an address
 module _ (p x : List ℕ) (count : ℕ) (ds w g c : List ℕ) where
@@ -61,7 +61,7 @@ module _ (p x : List ℕ) (count : ℕ) (ds w g c : List ℕ) where
   by-number : (n : ℕ) → (n ≡ 0 → ⊥) → Steps (Refused n) w g c (by-room p x count ds w g c n)
   unfolding by-room
   by-number zero h = absurd (h refl)
-  by-number (suc n) h = (refl, (refl, (refl, refl)))
+  by-number (suc n) h = refl
 
   module _ (r : Weighed) (r-is : r ≡ weight p x count ds w g c) where
     all-by : (s : Weighed) → r ≡ s → All ≡ by-weight p x count ds w g c s
@@ -70,13 +70,13 @@ module _ (p x : List ℕ) (count : ℕ) (ds w g c : List ℕ) where
 
     pub none-derived : r ≡ Nothing → Steps (Refused 7) w g c All
     unfolding by-weight
-    none-derived h = rw (all-by Nothing h) (refl, (refl, (refl, refl)))
+    none-derived h = sym (all-by Nothing h)
 
     module _ (d : Weight) (derived : r ≡ Derived d) where
       pub digits-left : (d .at ≡ count → ⊥) → Steps (Refused 7) w g c All
       unfolding by-weight
       digits-left h =
-          rw (all-by (Derived d) derived) (simp (ne-eqb (d .at) count h) (refl, (refl, (refl, refl))))
+          rw (all-by (Derived d) derived) (simp (ne-eqb (d .at) count h))
 
       module _ (whole : d .at ≡ count) (n : ℕ) (n-is : n ≡ over-room d c) where
         all-by-room : All ≡ by-room p x count ds w g c n
@@ -90,4 +90,4 @@ module _ (p x : List ℕ) (count : ℕ) (ds w g c : List ℕ) where
             → k ≡ recounted e → Steps (Accepted (record { event = e .event })) v h k All
         unfolding by-room accepted
         step-taken fits e v h k so k-is =
-            rw (all-by-room, fits, k-is, so .0) (refl, (so .1 .0, (so .1 .1, refl)))
+            rw (all-by-room, fits, k-is, ← so)

@@ -24,6 +24,7 @@ use weighing::weigh_at;
 use weights::Weighed;
 use weights::Weight;
 ghost use mathlib.Core.Path.{_≡_};
+ghost use Rattle.leaves.specs.code.Leaves.{with-words};
 ghost use Rattle.runs.specs.code.Doors as spec;
 ghost use Rattle.runs.specs.words.Held.{lent, Keeps, Begins};
 
@@ -67,14 +68,9 @@ pub fn step(
     track: &mut Track,
     counters: &mut Counters,
 ) -> Answer
-    ensures { λ r. ⌜ r ≡ spec.stepped (now (plan .entry)) (now (sets .entry)) count (now (digits .entry))
-        (now (nodes .entry)) (now (track .entry)) (now (counters .entry)) .answer ⌝ }
-    ensures { λ _. ⌜ now (nodes .exit) ≡ spec.stepped (now (plan .entry)) (now (sets .entry)) count
-        (now (digits .entry)) (now (nodes .entry)) (now (track .entry)) (now (counters .entry)) .nodes ⌝ }
-    ensures { λ _. ⌜ now (track .exit) ≡ spec.stepped (now (plan .entry)) (now (sets .entry)) count
-        (now (digits .entry)) (now (nodes .entry)) (now (track .entry)) (now (counters .entry)) .track ⌝ }
-    ensures { λ _. ⌜ now (counters .exit) ≡ spec.stepped (now (plan .entry)) (now (sets .entry)) count
-        (now (digits .entry)) (now (nodes .entry)) (now (track .entry)) (now (counters .entry)) .counters ⌝ }
+    ensures { λ r. ⌜ spec.with-answer r (now (nodes .exit)) (now (track .exit)) (now (counters .exit))
+        ≡ spec.stepped (now (plan .entry)) (now (sets .entry)) count (now (digits .entry))
+        (now (nodes .entry)) (now (track .entry)) (now (counters .entry)) ⌝ }
     ensures { λ r. ⌜ Keeps (now (plan .entry)) (now (sets .entry)) count (now (digits .entry))
         (lent (now (nodes .entry)) (now (track .entry)) (now (counters .entry))) r
         (lent (now (nodes .exit)) (now (track .exit)) (now (counters .exit))) ⌝ }
@@ -156,12 +152,9 @@ fn perform(
     track: &mut Track,
     counters: &Counters,
 ) -> Taken
-    ensures { λ r. ⌜ r ≡ spec.performed (now (plan .entry)) count (now (digits .entry))
-        (now (nodes .entry)) (now (track .entry)) (now (counters .entry)) .taken ⌝ }
-    ensures { λ _. ⌜ now (nodes .exit) ≡ spec.performed (now (plan .entry)) count (now (digits .entry))
-        (now (nodes .entry)) (now (track .entry)) (now (counters .entry)) .nodes ⌝ }
-    ensures { λ _. ⌜ now (track .exit) ≡ spec.performed (now (plan .entry)) count (now (digits .entry))
-        (now (nodes .entry)) (now (track .entry)) (now (counters .entry)) .track ⌝ }
+    ensures { λ r. ⌜ with-words r (now (nodes .exit)) (now (track .exit))
+        ≡ spec.performed (now (plan .entry)) count (now (digits .entry))
+        (now (nodes .entry)) (now (track .entry)) (now (counters .entry)) ⌝ }
 {
     let reference = counter(REFERENCE, counters);
     let tally = tally_of(counters);

@@ -19,7 +19,7 @@ use Rattle.sides.specs.code.Sides.{one-node, entered, side-tally, side-n
 use Rattle.sides.specs.code.Sides.{both}
 use Rattle.drawing.specs.declared.Tally.{Tally}
 use Rattle.leaves.specs.declared.Taken.{Taken}
-use Rattle.leaves.proofs.Laws.{Comes}
+use Rattle.leaves.proofs.Laws.{Comes, comes}
 
 pub entered-made : (n t m : ℕ) (k l : Tally) (w x y z v : List ℕ) → x ≡ put 1 w n Control.entered
     → y ≡ put 6 x n 1 → z ≡ put 7 y n 1 → m ≡ own-mark t → (l ≡ one-node k) × (v ≡ labelled n m z)
@@ -67,7 +67,7 @@ module _ (p : List ℕ) (n side b size own other : ℕ) (d : Taken) (w g : List 
       → Comes (come e n j (d .at) (d .tally)) v g (one p n side b size own other d w g)
   unfolding one
   one-stays h v e i j v-is e-is i-is j-is =
-      simp (stays-so true h) (rw (e-is, j-is, i-is, c-is, t-is), (v-is, refl))
+      simp (stays-so true h) (comes (rw (e-is, j-is, i-is, c-is, t-is)) v-is refl)
 
   pub one-resolves : s ≡ false → (f i j l m : ℕ) → f ≡ frame w n → i ≡ size - own → j ≡ i - other → l ≡ j - 1
       → m ≡ capped (l + d .size) → (y : Taken) (x z : List ℕ)
@@ -88,4 +88,4 @@ module _ (n size own other met : ℕ) (l r : Taken) (w g : List ℕ) where
       → Comes (come (l .event) n u (r .at) k) v h (both n size own other met l r w g)
   unfolding both
   both-made v h i j s u k v-is i-is j-is s-is u-is meets =
-      (rw (u-is, s-is, j-is, i-is, meets .0), (v-is, meets .1))
+      comes (rw (u-is, s-is, j-is, i-is, meets .0)) v-is (meets .1)

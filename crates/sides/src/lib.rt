@@ -26,6 +26,7 @@ use weights::shown;
 use weights::stays;
 ghost use mathlib.Core.Path.{_≡_};
 ghost use Prim.Native.Nat.{_≤_};
+ghost use Rattle.leaves.specs.code.Leaves.{with-words};
 ghost use Rattle.sides.specs.code.Sides as spec;
 
 // A choice or parallel is entered, neither side yet: its node is labelled.
@@ -87,9 +88,8 @@ pub fn close_one(
     track: &mut Track,
 ) -> Taken
     requires { ⌜ side ≤ 2 ⌝ }
-    ensures { λ r. ⌜ r ≡ spec.one (now (plan .entry)) n side bound size own other done (now (nodes .entry)) (now (track .entry)) .taken ⌝ }
-    ensures { λ _. ⌜ now (nodes .exit) ≡ spec.one (now (plan .entry)) n side bound size own other done (now (nodes .entry)) (now (track .entry)) .nodes ⌝ }
-    ensures { λ _. ⌜ now (track .exit) ≡ spec.one (now (plan .entry)) n side bound size own other done (now (nodes .entry)) (now (track .entry)) .track ⌝ }
+    ensures { λ r. ⌜ with-words r (now (nodes .exit)) (now (track .exit))
+        ≡ spec.one (now (plan .entry)) n side bound size own other done (now (nodes .entry)) (now (track .entry)) ⌝ }
 {
     let t = word(n, TERM, nodes);
     let kind = kind_of(t, plan);
@@ -129,9 +129,8 @@ pub fn close_both(
     nodes: &mut Nodes,
     track: &mut Track,
 ) -> Taken
-    ensures { λ r. ⌜ r ≡ spec.both n size own other met done across (now (nodes .entry)) (now (track .entry)) .taken ⌝ }
-    ensures { λ _. ⌜ now (nodes .exit) ≡ spec.both n size own other met done across (now (nodes .entry)) (now (track .entry)) .nodes ⌝ }
-    ensures { λ _. ⌜ now (track .exit) ≡ spec.both n size own other met done across (now (nodes .entry)) (now (track .entry)) .track ⌝ }
+    ensures { λ r. ⌜ with-words r (now (nodes .exit)) (now (track .exit))
+        ≡ spec.both n size own other met done across (now (nodes .entry)) (now (track .entry)) ⌝ }
 {
     put_side(n, 2, across.reference, across.size, nodes);
     let event = done.event;

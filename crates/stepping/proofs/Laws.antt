@@ -21,10 +21,6 @@ use Rattle.leaves.specs.declared.Taken.{Taken}
 use Rattle.leaves.proofs.Laws.{Comes}
 use Rattle.sides.proofs.Laws.{Entered}
 
--- the parts that a step comes to are the whole
-whole : (d : Taken) (w g : List ℕ) (e : Done) → Comes d w g e → with-words d w g ≡ e
-whole d w g e so = rw (so .0, so .1 .0, so .1 .1)
-
 module _ (p : List ℕ) (count : ℕ) (ds : List ℕ) where
   -- the step of a side that is entered first
   side-taken : (less n side t i at size : ℕ) (k l : Tally) (w v g h : List ℕ) (r : ℕ) (y : Taken)
@@ -33,7 +29,7 @@ module _ (p : List ℕ) (count : ℕ) (ds : List ℕ) where
       → in-side p count ds (take p count ds less) n side t i at size k w g ≡ with-words y x z
   unfolding in-side
   side-taken less n side t i at size k l w v g h r y x z enters r-is so =
-      rw (← enters .0, ← enters .1 .0, ← enters .1 .1, ← r-is) (sym (whole y x z _ so))
+      rw (← enters .0, ← enters .1 .0, ← enters .1 .1, ← r-is) (sym so)
 
   module _ (left n b at size : ℕ) (k : Tally) (w g : List ℕ) where
     abbrev All : Done
@@ -41,7 +37,7 @@ module _ (p : List ℕ) (count : ℕ) (ds : List ℕ) where
 
     pub take-spent : left ≡ 0 → (y : Taken) → y ≡ come Tau n size at k → Comes y w g All
     unfolding take
-    take-spent h y y-is = rw h (y-is, (refl, refl))
+    take-spent h y y-is = rw (h, y-is)
 
     module _ (less t c d s : ℕ) (more : left ≡ suc less) (t-is : t ≡ term w n) (c-is : c ≡ kind p t)
         (d-is : d ≡ digit-at ds count at) (s-is : s ≡ state w n) where

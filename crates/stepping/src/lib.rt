@@ -32,6 +32,7 @@ use sides::enter;
 use sides::enter_side;
 use sides::put_side;
 ghost use mathlib.Core.Path.{_≡_};
+ghost use Rattle.leaves.specs.code.Leaves.{with-words};
 ghost use Rattle.stepping.specs.code.Take as spec;
 
 // Takes the step of what stands at reference n, inside sequences up to frame `bound`, by the digits from `at` on.
@@ -48,12 +49,9 @@ pub fn take(
     nodes: &mut Nodes,
     track: &mut Track,
 ) -> Taken
-    ensures { λ r. ⌜ r ≡ spec.take (now (plan .entry)) count (now (digits .entry)) left n bound at size tally
-        (now (nodes .entry)) (now (track .entry)) .taken ⌝ }
-    ensures { λ _. ⌜ now (nodes .exit) ≡ spec.take (now (plan .entry)) count (now (digits .entry)) left n bound at size tally
-        (now (nodes .entry)) (now (track .entry)) .nodes ⌝ }
-    ensures { λ _. ⌜ now (track .exit) ≡ spec.take (now (plan .entry)) count (now (digits .entry)) left n bound at size tally
-        (now (nodes .entry)) (now (track .entry)) .track ⌝ }
+    ensures { λ r. ⌜ with-words r (now (nodes .exit)) (now (track .exit))
+        ≡ spec.take (now (plan .entry)) count (now (digits .entry)) left n bound at size tally
+        (now (nodes .entry)) (now (track .entry)) ⌝ }
 {
     if left == 0 {
         return come(Event::Tau, n, size, at, tally);

@@ -1,7 +1,6 @@
 -- `playing::play` meets its contract: a line that asks for no step leaves every word as it was, and one that
 -- asks for a step comes to what the step answers. Assumes nothing.
 use Rattle.playing.proofs.Laws.{no-step-played, refused-played, shown-played}
-use Rattle.runs.proofs.Promises.{of-words}
 use borrow.Author.Needs.{needs}
 use Rattle.playing.proofs.play.Statement.{statement}
 use Rattle.playing.proofs.play.Tie as tie
@@ -33,13 +32,13 @@ returns-2 : tie.Need-returns-2
 returns-2 c =
     let asked = c .before .before .before .before .before .before .before .before .before in
     refused-played _ _ _ _ _ _ _ _ _ _ (asked .before .before .next-step .ensures) _ _ (asked .line .given .1)
-    _ _ _ _ (of-words _ _ _ _ _ _ _ _ _ _ _ (c .before .before .before .step .ensures)) _ (c .before .answer .given .1)
+    _ _ _ _ (c .before .before .before .step .ensures .0) _ (c .before .answer .given .1)
 
 returns-3 : tie.Need-returns-3
 returns-3 c =
     let asked = c .before .before .before .before .before .before .before .before .before in
     shown-played _ _ _ _ _ _ _ _ _ _ (asked .before .before .next-step .ensures) _ _ (asked .line .given .1)
-    _ _ _ _ (of-words _ _ _ _ _ _ _ _ _ _ _ (c .before .before .before .step .ensures)) _ (c .before .answer2 .given .1)
+    _ _ _ _ (c .before .before .before .step .ensures .0) _ (c .before .answer2 .given .1)
 
 pub play-spec : {M : Type 1} → statement M
 play-spec =

@@ -19,6 +19,9 @@ pub record Line-played : Type 0 where
   pub track : List ℕ
   pub counters : List ℕ
 
+abbrev pub with-played : Played → List ℕ → List ℕ → List ℕ → Line-played
+with-played r w g c = record { played = r; nodes = w; track = g; counters = c }
+
 unfoldable pub of-answer : ℕ → Answer → Played
 of-answer next (Accepted s) = Plays.Stepped (s .event) next
 of-answer next (Refused n) = Plays.Refused n
@@ -30,15 +33,10 @@ without-step Line.End = Plays.End
 
 module _ (p x w g c : List ℕ) where
   abbrev pub unplayed : Played → Line-played
-  unplayed r = record { played = r; nodes = w; track = g; counters = c }
+  unplayed r = with-played r w g c
 
   unfoldable pub step-played : ℕ → Stepped → Line-played
-  step-played next s = record {
-    played = of-answer next (s .answer);
-    nodes = s .nodes;
-    track = s .track;
-    counters = s .counters;
-  }
+  step-played next s = with-played (of-answer next (s .answer)) (s .nodes) (s .track) (s .counters)
 
   -- by what the line asks for, with its digits in the lent array
   unfoldable pub by-line : ScriptStep → List ℕ → Line-played

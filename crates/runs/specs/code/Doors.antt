@@ -44,6 +44,9 @@ pub record Stepped : Type 0 where
   pub track : List ℕ
   pub counters : List ℕ
 
+abbrev pub with-answer : Answer → List ℕ → List ℕ → List ℕ → Stepped
+with-answer a w g c = record { answer = a; nodes = w; track = g; counters = c }
+
 module _ (p x : List ℕ) (count : ℕ) (ds w g c : List ℕ) where
   unfoldable pub weight : Weighed
   weight =
@@ -59,15 +62,11 @@ module _ (p : List ℕ) (count : ℕ) (ds w g c : List ℕ) where
 module _ (p x : List ℕ) (count : ℕ) (ds w g c : List ℕ) where
   -- a refused step leaves every word as it was
   abbrev pub refused : ℕ → Stepped
-  refused n = record { answer = Refused n; nodes = w; track = g; counters = c }
+  refused n = with-answer (Refused n) w g c
 
   unfoldable pub accepted : Done → Stepped
-  accepted d = record {
-    answer = Accepted (record { event = d .taken .event });
-    nodes = d .nodes;
-    track = d .track;
-    counters = recounted (d .taken);
-  }
+  accepted d =
+      with-answer (Accepted (record { event = d .taken .event })) (d .nodes) (d .track) (recounted (d .taken))
 
   unfoldable pub by-room : ℕ → Stepped
   by-room zero = accepted (performed p count ds w g c)
