@@ -30,6 +30,7 @@ use Rattle.spelling.proofs.Putting.{puts-then}
 use Rattle.spelling.proofs.Spelt.{text-append}
 use Rattle.listing.specs.Listing.{script-room}
 use Rattle.telling.specs.ListingFrame.{step-frame}
+use Rattle.listing.specs.code.Told.{StepsPut}
 use Rattle.listing.specs.code.Told.{Stopped, number-of, stops, in-front, by-played, stepped, from-words}
 
 -- two lines that come to the same but for where the next one begins
@@ -186,12 +187,6 @@ after-more : (done : List Event) (e : Event) (r : Stopped)
 unfolding after in-front
 after-more done e r = rw append-assoc
 
--- what all lines have come to: the words, the slice, the refusal and where the steps' lines end
-abbrev pub StepsPut : Stopped → List ℕ → List ℕ → List ℕ → List ℕ → List ℕ → ℕ → ℕ → ℕ → Type 0
-StepsPut z w g c out₀ out number line end =
-    (number ≡ z .number) × ((line ≡ z .line) × ((w ≡ z .nodes) × ((g ≡ z .track) × ((c ≡ z .counters)
-    × (Puts 0 (text (map step-frame (z .events))) out₀ out end × (end ≤ 7 * script-room))))))
-
 module _ (p x script w₀ g₀ c₀ out₀ : List ℕ) where
   -- what holds at each turn
   pub record Going (w g c out ds : List ℕ) (at line end : ℕ) : Type 0 where
@@ -224,27 +219,37 @@ module _ {p x script w₀ g₀ c₀ out₀ w g c out ds : List ℕ} {at line end
   here = first p x w g c at (lines (drop at script)) ds
 
   abbrev pub Behind : Played → List ℕ → List ℕ → List ℕ → List ℕ → Type 0
-  Behind r v h k es =
-      (r ≡ here .played) × ((v ≡ here .nodes) × ((h ≡ here .track)
-      × ((k ≡ here .counters) × (es ≡ sets ds 0 (left (lines (drop at script)))))))
+  Behind r v h k es = (plays.with-played r v h k ≡ here) × (es ≡ sets ds 0 (left (lines (drop at script))))
 
   module _ {r : Played} {v h k es : List ℕ} (b : Behind r v h k es) where
+    comes-to : r ≡ here .played
+    comes-to = ap (λ (z : plays.Line-played). z .played) (b .0)
+
+    words-are : (v ≡ here .nodes) × (h ≡ here .track) × (k ≡ here .counters)
+    words-are = (
+      ap (λ (z : plays.Line-played). z .nodes) (b .0),
+      ap (λ (z : plays.Line-played). z .track) (b .0),
+      ap (λ (z : plays.Line-played). z .counters) (b .0),
+    )
+
     -- a line that is no step ends the work
     pub going-stops : Other r → {m n to : ℕ} → (m ≡ number-of r) × (n ≡ line) × (to ≡ end)
         → length script ≤ script-room → StepsPut (from-words p x script w₀ g₀ c₀) v h k out₀ out m n to
     unfolding after stops
     going-stops o {to = to} s fits =
-        let other : Other (here .played) = rw (b .0) at o in
+        let other : Other (here .played) = rw comes-to at o in
         let stop = lines-stop p x w g c at line (lines (drop at script)) ds other in
         let low : to ≤ 7 * script-room = omega (arith, s .2, now .ended, now .within) in
         let put : Puts 0 (text (map step-frame (now .done))) out₀ out to = rw (s .2) (now .put) in
-        rw (now .work, stop)
-        (s .0 ∙ ap number-of (b .0), (s .1, (b .1 .0, (b .1 .1 .0, (b .1 .1 .1 .0, (rw append-nil put, low))))))
+        rw (now .work, stop) (
+          s .0 ∙ ap number-of comes-to,
+          (s .1, (words-are .0, (words-are .1, (words-are .2, (rw append-nil put, low))))),
+        )
 
     module _ {e : Event} {next : ℕ} (is : r ≡ Stepped e next) where
       -- a step goes on
       went : Went p x w g c at script line ds e next
-      went = lines-go p x w g c at script line ds e next (sym (b .0) ∙ is)
+      went = lines-go p x w g c at script line ds e next (sym comes-to ∙ is)
 
       pub going-on : (at < next) × (next ≤ length script)
       going-on = (went .on, went .within)
@@ -253,7 +258,7 @@ module _ {p x script w₀ g₀ c₀ out₀ w g c out ds : List ℕ} {at line end
           → Going p x script w₀ g₀ c₀ out₀ v h k out′ es next (line + 1) to
       going-turn q = record {
         done = now .done ++ e ∷ [];
-        work = rw (b .1 .0, b .1 .1 .0, b .1 .1 .1 .0, b .1 .1 .1 .1)
+        work = rw (words-are .0, words-are .1, words-are .2, b .1)
             (now .work ∙ ap (after (now .done)) (went .then) ∙ after-more (now .done) e _);
         put = rw (steps-more (now .done) e) at (puts-then (now .put) q);
         counted = omega (arith, now .counted, went .on);

@@ -29,7 +29,7 @@ use Rattle.telling.specs.ListingFrame.{refusal-frame, alone, step-frame, status
 use Rattle.listing.specs.Listing.{script-room, within-room, table-listing, listing}
 use Rattle.listing.specs.code.Told.{Stopped, from-words, from-start, stop-text, stopped-text, run-text}
 use Rattle.listing.specs.code.Told.{script-text}
-use Rattle.listing.proofs.Stepping.{StepsPut}
+use Rattle.listing.specs.code.Told.{StepsPut}
 use Rattle.listing.proofs.Told.{script-listed}
 
 -- a status's line has five characters, and a refusal's nine, where there is one

@@ -38,15 +38,12 @@ use telling::put_refusal;
 use telling::put_status;
 use writing::Saved;
 ghost use mathlib.Core.Path.{_≡_};
-ghost use mathlib.Core.List.{map};
-ghost use Prim.Native.Nat.{_*_, _≤_};
+ghost use Prim.Native.Nat.{_≤_};
 ghost use lib.ListN.{length};
 ghost use lib.Seq.{sets as put};
-ghost use Rattle.lines.specs.Line.{text};
 ghost use Rattle.spelling.specs.words.Puts.{Puts, line-cursor};
 ghost use Rattle.saving.specs.code.Saving.{text-of};
 ghost use Rattle.listing.specs.Listing.{listing, within-room, script-room};
-ghost use Rattle.telling.specs.ListingFrame.{step-frame};
 ghost use Rattle.listing.specs.code.Told as of;
 
 const SAVE_ROOM: usize = 65536;
@@ -175,20 +172,10 @@ fn put_steps(
     out: &mut [u8],
 ) -> Stop
     requires { ⌜ length (now script) ≤ script-room ⌝ }
-    ensures { λ r. ⌜ r .number ≡ of.from-words (now (plan .entry)) (now (sets .entry)) (now (script .entry))
-        (now (nodes .entry)) (now (track .entry)) (now (counters .entry)) .number ⌝ }
-    ensures { λ r. ⌜ r .line ≡ of.from-words (now (plan .entry)) (now (sets .entry)) (now (script .entry))
-        (now (nodes .entry)) (now (track .entry)) (now (counters .entry)) .line ⌝ }
-    ensures { λ _. ⌜ now (nodes .exit) ≡ of.from-words (now (plan .entry)) (now (sets .entry)) (now (script .entry))
-        (now (nodes .entry)) (now (track .entry)) (now (counters .entry)) .nodes ⌝ }
-    ensures { λ _. ⌜ now (track .exit) ≡ of.from-words (now (plan .entry)) (now (sets .entry)) (now (script .entry))
-        (now (nodes .entry)) (now (track .entry)) (now (counters .entry)) .track ⌝ }
-    ensures { λ _. ⌜ now (counters .exit) ≡ of.from-words (now (plan .entry)) (now (sets .entry)) (now (script .entry))
-        (now (nodes .entry)) (now (track .entry)) (now (counters .entry)) .counters ⌝ }
-    ensures { λ r. ⌜ Puts 0 (text (map step-frame (of.from-words (now (plan .entry)) (now (sets .entry))
-        (now (script .entry)) (now (nodes .entry)) (now (track .entry)) (now (counters .entry)) .events)))
-        (now (out .entry)) (now (out .exit)) (r .end) ⌝ }
-    ensures { λ r. ⌜ r .end ≤ 7 * script-room ⌝ }
+    ensures { λ r. ⌜ of.StepsPut (of.from-words (now (plan .entry)) (now (sets .entry)) (now (script .entry))
+        (now (nodes .entry)) (now (track .entry)) (now (counters .entry)))
+        (now (nodes .exit)) (now (track .exit)) (now (counters .exit)) (now (out .entry)) (now (out .exit))
+        (r .number) (r .line) (r .end) ⌝ }
 {
     let mut digits = [0u8; DIGIT_ROOM];
     let mut at = 0;

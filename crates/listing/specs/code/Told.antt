@@ -1,6 +1,7 @@
 -- What the functions below the door come to, whatever the words and columns hold; `proofs/Told.antt` shows what it is
 -- for those of a checked table.
-use Prim.Native.Nat.{ℕ, zero, suc, _+_}
+use Prim.Native.Nat.{ℕ, zero, suc, _+_, _*_, _≤_}
+use mathlib.Core.Path.{_≡_}
 use mathlib.Core.List.{List, [], _∷_, _++_, map}
 use lib.ListN.{length, replicate}
 use lib.Seq.{sets}
@@ -16,6 +17,7 @@ use Rattle.counting.specs.code.Counting.{reference}
 use Rattle.playing.specs.declared.Played.{Played}
 use Rattle.playing.specs.declared.Played.the-variants.{Stepped, Refused, End}
 use Rattle.saving.specs.code.Saving.{text-of}
+use Rattle.spelling.specs.words.Puts.{Puts}
 use Rattle.telling.specs.ListingFrame.{alone, step-frame, status-frame}
 use Rattle.listing.specs.Listing.{within-room, script-room}
 
@@ -79,6 +81,12 @@ module _ (p x : List ℕ) where
   -- from the start
   unfoldable pub from-start : List ℕ → Stopped
   from-start script = from-words script run.fresh-nodes run.fresh-track run.fresh-counters
+
+-- all lines have come to so much: the refusal, the words, the steps' lines in the slice and where they end
+abbrev pub StepsPut : Stopped → List ℕ → List ℕ → List ℕ → List ℕ → List ℕ → ℕ → ℕ → ℕ → Type 0
+StepsPut z w g c out₀ out number line end =
+    (number ≡ z .number) × ((line ≡ z .line) × ((w ≡ z .nodes) × ((g ≡ z .track) × ((c ≡ z .counters)
+    × (Puts 0 (text (map step-frame (z .events))) out₀ out end × (end ≤ 7 * script-room))))))
 
 -- the refusal of a script's line, where there was one
 unfoldable pub stop-text : ℕ → ℕ → List ℕ
