@@ -5,6 +5,9 @@ use places::Literal;
 ghost use mathlib.Core.Path.{_≡_};
 ghost use Rattle.marks.specs.words.Mark as of;
 
+// The mark of the left-hand side of definition 00.
+pub const START_MARK: usize = 1;
+
 // The mark of a term's own literal.
 pub fn own_mark(term: usize) -> usize
     ensures { λ r. ⌜ r ≡ of.own-mark term ⌝ }

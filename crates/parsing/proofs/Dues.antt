@@ -1,6 +1,6 @@
 -- What a line's bytes meet where a node, a pair, the last line or line 1 is due: 2 where they do not form the frame that is
 -- due, and then what their numbers meet. So bytes that meet no refusal are the frame that is due. Assumes nothing.
-use Prim.Native.Nat.{ℕ, _+_, _≤_}
+use Prim.Native.Nat.{ℕ, _+_}
 use mathlib.Core.Path.{_≡_, refl, sym, _∙_}
 use mathlib.Core.Bool.{Bool, true, false}
 use mathlib.Core.List.{List, [], _∷_, _++_}
@@ -43,7 +43,7 @@ fails : {A : Type 0} {b : Bool} → b ≡ false → b ≡ true → A
 fails e q = let z : _≡_ {A = ℕ} 0 1 = cc in absurd (omega arith)
 
 -- what `formed` tests
-pub formed-parts : (b n : ℕ) (bs : List ℕ) → formed b n bs ≡ true → (getD bs 0 0 ≡ b) × (length bs ≡ n)
+formed-parts : (b n : ℕ) (bs : List ℕ) → formed b n bs ≡ true → (getD bs 0 0 ≡ b) × (length bs ≡ n)
 formed-parts b n bs e =
     let i = both (eqb (getD bs 0 0) b) (eqb (length bs) n) e in
     (eqb-true (getD bs 0 0) b (i .0), eqb-true (length bs) n (i .1))
@@ -128,15 +128,11 @@ module _ (bs : List ℕ) where
         (⊎-elim (λ (h : c ≡ 0x32). rw h) (λ (h : c ≡ 0x33). rw h) k)
 
     -- what meets no refusal is of the kind that is due
-    pub node-due : refusal d n a-node (frame-of bs) ≡ 0
-        → (frame-of bs ≡ node (number-at 1 bs) (place-at bs)) × (5 ≤ length bs)
+    pub node-due : refusal d n a-node (frame-of bs) ≡ 0 → frame-of bs ≡ node (number-at 1 bs) (place-at bs)
     node-due z = go (formed 0x31 (5 + getD bs 4 0) bs) refl
       where
-        go : (b : Bool) → formed 0x31 (5 + getD bs 4 0) bs ≡ b
-            → (frame-of bs ≡ node (number-at 1 bs) (place-at bs)) × (5 ≤ length bs)
-        go true e =
-            let p = formed-parts 0x31 (5 + getD bs 4 0) bs e in
-            (node-is e, omega (arith, p .1))
+        go : (b : Bool) → formed 0x31 (5 + getD bs 4 0) bs ≡ b → frame-of bs ≡ node (number-at 1 bs) (place-at bs)
+        go true e = node-is e
         go false e = absurd (omega (arith, no-node d n e, z))
 
     pub pair-told : (c : ℕ) → PairCode c → refusal d n (due-of c) (frame-of bs) ≡ pair-refusal n c bs
@@ -155,7 +151,7 @@ module _ (bs : List ℕ) where
         go false e = absurd (omega (arith, no-last d n e, z))
 
   -- a pair that meets no refusal, and the graph with it
-  pub pair-formed : (n c : ℕ) → pair-refusal n c bs ≡ 0 → formed c 5 bs ≡ true
+  pair-formed : (n c : ℕ) → pair-refusal n c bs ≡ 0 → formed c 5 bs ≡ true
   unfolding pair-refusal
   pair-formed n c z = go (formed c 5 bs) refl
     where

@@ -4,34 +4,35 @@ use Prim.Native.Nat.{ℕ, _+_, _/_, _≤_, _<_}
 use mathlib.Core.Path.{_≡_, sym, _∙_}
 use mathlib.Core.Bool.{true, false, and-false}
 use mathlib.Core.List.{List}
-use mathlib.Core.Option.{some}
 use native.Mathlib.Omega.{arith}
 use lib.ListN.{length, drop, getD, length-drop}
 use lib.Dec.{leb, eqb}
 use borrow.Author.Tests.{eq-eqb, ne-eqb, lt-ltb, le-ltb, le-leb, lt-leb}
-use Rattle.lines.specs.Line.{bytes, number-at}
-use Rattle.numbers.specs.code.Numbers.{byteAt}
-use Rattle.lines.proofs.Laws.{bytes-length}
-use Rattle.numbers.proofs.Laws.{byte-held}
+use Rattle.lines.specs.Line.{number-at}
+use Rattle.numbers.specs.code.Numbers.{read-bytes, byteAt}
+use Rattle.numbers.proofs.Laws.{read-length}
 use Rattle.graphs.specs.Parsed.{opening, pair-at, place-at, formed, frame-of, a-node, the-last, ends-below}
 use Rattle.graphs.specs.Parsed.{in-range, unless, refusal, first-refusal}
 use Rattle.parsing.specs.code.Phases.{pair-refusal}
 use Rattle.parsing.proofs.Dues.{last-is, opening-is, no-node, no-last, no-opening, node-met}
 
--- the characters of a line, and its bytes: what is read of the one is held by the other
-module _ (cs bs : List ℕ) (stands : bytes cs ≡ some bs) where
+-- the bytes of characters
+module _ (cs : List ℕ) where
+  abbrev bs : List ℕ
+  bs = read-bytes cs
+
   counted : length bs ≡ length cs / 2
-  counted = omega (arith, bytes-length cs bs stands)
+  counted = read-length cs
 
   -- a first byte, or a length, that is not the frame's
   pub other-tag : (t n : ℕ) {b : ℕ} → b ≡ byteAt cs 0 → (b ≡ t → ⊥) → formed t n bs ≡ false
-  other-tag t n {b} e h = simp (byte-held cs bs stands 0 e, ne-eqb b t h)
+  other-tag t n {b} e h = simp (sym e, ne-eqb b t h)
 
   other-count : (t n : ℕ) → (length bs ≡ n → ⊥) → formed t n bs ≡ false
   other-count t n h = simp (ne-eqb (length bs) n h, and-false (eqb (getD bs 0 0) t))
 
   right : (t n : ℕ) {b : ℕ} → b ≡ byteAt cs 0 → b ≡ t → length bs ≡ n → formed t n bs ≡ true
-  right t n {b} e h l = simp (byte-held cs bs stands 0 e, eq-eqb b t h, eq-eqb (length bs) n l)
+  right t n {b} e h l = simp (sym e, eq-eqb b t h, eq-eqb (length bs) n l)
 
   -- where a node is due
   module _ (d n : ℕ) {b : ℕ} (first : b ≡ byteAt cs 0) where
@@ -42,11 +43,11 @@ module _ (cs bs : List ℕ) (stands : bytes cs ≡ some bs) where
       pub node-length : (length cs / 2 ≡ p + 5 → ⊥) → 2 ≡ refusal d n a-node (frame-of bs)
       node-length h =
           sym (no-node bs d n (other-count 0x31 (5 + getD bs 4 0)
-          (λ q. h (omega (arith, counted, byte-held cs bs stands 4 size, q)))))
+          (λ q. h (omega (arith, counted, size, q)))))
 
       module _ (tagged : b ≡ 0x31) (long : length cs / 2 ≡ p + 5) where
         size-is : length bs ≡ 5 + getD bs 4 0
-        size-is = omega (arith, counted, byte-held cs bs stands 4 size)
+        size-is = omega (arith, counted, size)
 
         path-is : length (drop 5 bs) ≡ p
         path-is = omega (arith, length-drop 5 bs, counted)
@@ -64,11 +65,11 @@ module _ (cs bs : List ℕ) (stands : bytes cs ≡ some bs) where
 
           pub definition-past : d ≤ k → 3 ≡ refusal d n a-node (frame-of bs)
           unfolding in-range
-          definition-past h = rw met (simp (in-room, byte-held cs bs stands 3 inside, le-ltb k d h))
+          definition-past h = rw met (simp (in-room, sym inside, le-ltb k d h))
 
           pub node-fits : k < d → 0 ≡ refusal d n a-node (frame-of bs)
           unfolding in-range
-          node-fits h = rw met (simp (in-room, byte-held cs bs stands 3 inside, lt-ltb k d h))
+          node-fits h = rw met (simp (in-room, sym inside, lt-ltb k d h))
 
   -- where a pair is due
   module _ (n c : ℕ) where
@@ -76,72 +77,54 @@ module _ (cs bs : List ℕ) (stands : bytes cs ≡ some bs) where
     unfolding pair-refusal
     no-pair e = rw e
 
-    pub pair-length : (length cs ≡ 10 → ⊥) → 2 ≡ pair-refusal n c bs
-    pair-length h = no-pair (other-count c 5 (λ q. h (omega (arith, bytes-length cs bs stands, q))))
+    pub pair-length : (length cs / 2 ≡ 5 → ⊥) → 2 ≡ pair-refusal n c bs
+    pair-length h = no-pair (other-count c 5 (λ q. h (omega (arith, counted, q))))
 
     module _ {b : ℕ} (first : b ≡ byteAt cs 0) where
       pub pair-tag : (b ≡ c → ⊥) → 2 ≡ pair-refusal n c bs
       pair-tag h = no-pair (other-tag c 5 first h)
 
-      module _ (long : length cs ≡ 10) (tagged : b ≡ c) where
-        five : length bs ≡ 5
-        five = omega (arith, bytes-length cs bs stands)
-
+      module _ (long : length cs / 2 ≡ 5) (tagged : b ≡ c) where
         met-pair : pair-refusal n c bs ≡ unless (ends-below n (pair-at bs))
         unfolding pair-refusal
-        met-pair = rw (right c 5 first tagged five)
+        met-pair = rw (right c 5 first tagged (counted ∙ long))
 
-        module _ {i : ℕ} (from : 3 ≤ length bs → i ≡ number-at 1 bs) where
-          from-is : number-at 1 bs ≡ i
-          from-is = sym (from (omega (arith, five)))
-
+        module _ {i : ℕ} (from : i ≡ number-at 1 bs) where
           pub from-past : n ≤ i → 3 ≡ pair-refusal n c bs
           unfolding ends-below
-          from-past h = rw met-pair (simp (from-is, le-ltb i n h))
+          from-past h = rw met-pair (simp (sym from, le-ltb i n h))
 
-          module _ (from-in : i < n) {j : ℕ} (to : 5 ≤ length bs → j ≡ number-at 3 bs) where
-            to-is : number-at 3 bs ≡ j
-            to-is = sym (to (omega (arith, five)))
-
+          module _ (from-in : i < n) {j : ℕ} (to : j ≡ number-at 3 bs) where
             pub to-past : n ≤ j → 3 ≡ pair-refusal n c bs
             unfolding ends-below
-            to-past h = rw met-pair (simp (from-is, to-is, lt-ltb i n from-in, le-ltb j n h))
+            to-past h = rw met-pair (simp (sym from, sym to, lt-ltb i n from-in, le-ltb j n h))
 
             pub pair-fits : j < n → 0 ≡ pair-refusal n c bs
             unfolding ends-below
-            pair-fits h = rw met-pair (simp (from-is, to-is, lt-ltb i n from-in, lt-ltb j n h))
+            pair-fits h = rw met-pair (simp (sym from, sym to, lt-ltb i n from-in, lt-ltb j n h))
 
   -- where the last line is due
-  pub last-length : (length cs ≡ 2 → ⊥) → 2 ≡ refusal 0 0 the-last (frame-of bs)
-  last-length h = sym (no-last bs 0 0 (other-count 0x3f 1 (λ q. h (omega (arith, bytes-length cs bs stands, q)))))
+  pub last-length : (length cs / 2 ≡ 1 → ⊥) → 2 ≡ refusal 0 0 the-last (frame-of bs)
+  last-length h = sym (no-last bs 0 0 (other-count 0x3f 1 (λ q. h (omega (arith, counted, q)))))
 
   pub last-tag : {b : ℕ} → b ≡ byteAt cs 0 → (b ≡ 0x3f → ⊥) → 2 ≡ refusal 0 0 the-last (frame-of bs)
   last-tag first h = sym (no-last bs 0 0 (other-tag 0x3f 1 first h))
 
-  pub last-fits : {b : ℕ} → b ≡ byteAt cs 0 → length cs ≡ 2 → b ≡ 0x3f → 0 ≡ refusal 0 0 the-last (frame-of bs)
+  pub last-fits : {b : ℕ} → b ≡ byteAt cs 0 → length cs / 2 ≡ 1 → b ≡ 0x3f → 0 ≡ refusal 0 0 the-last (frame-of bs)
   unfolding refusal
-  last-fits first l h = rw (last-is bs (right 0x3f 1 first h (omega (arith, bytes-length cs bs stands))))
+  last-fits first l h = rw (last-is bs (right 0x3f 1 first h (omega (arith, counted))))
 
   -- line 1
-  pub opening-length : (length cs ≡ 16 → ⊥) → 2 ≡ first-refusal (frame-of bs)
+  pub opening-length : (length cs / 2 ≡ 8 → ⊥) → 2 ≡ first-refusal (frame-of bs)
   opening-length h =
-      sym (no-opening bs (other-count 0x30 8 (λ q. h (omega (arith, bytes-length cs bs stands, q)))))
+      sym (no-opening bs (other-count 0x30 8 (λ q. h (omega (arith, counted, q)))))
 
   pub opening-tag : {b : ℕ} → b ≡ byteAt cs 0 → (b ≡ 0x30 → ⊥) → 2 ≡ first-refusal (frame-of bs)
   opening-tag first h = sym (no-opening bs (other-tag 0x30 8 first h))
 
-  module _ (long : length cs ≡ 16) {b e n a s : ℕ} (first : b ≡ byteAt cs 0) (tagged : b ≡ 0x30)
-      (edition : e ≡ byteAt cs 1) (nodes : 4 ≤ length bs → n ≡ number-at 2 bs)
-      (arcs : 6 ≤ length bs → a ≡ number-at 4 bs) (meetings : 8 ≤ length bs → s ≡ number-at 6 bs) where
-    eight : length bs ≡ 8
-    eight = omega (arith, bytes-length cs bs stands)
-
+  module _ (long : length cs / 2 ≡ 8) {b e n a s : ℕ} (first : b ≡ byteAt cs 0) (tagged : b ≡ 0x30)
+      (edition : e ≡ byteAt cs 1) (nodes : n ≡ number-at 2 bs) (arcs : a ≡ number-at 4 bs)
+      (meetings : s ≡ number-at 6 bs) where
     pub opening-read : frame-of bs ≡ opening e n a s
     opening-read =
-        opening-is bs (right 0x30 8 first tagged eight)
-        ∙ rw (
-          byte-held cs bs stands 1 edition,
-          nodes (omega (arith, eight)),
-          arcs (omega (arith, eight)),
-          meetings (omega (arith, eight)),
-        )
+        opening-is bs (right 0x30 8 first tagged (counted ∙ long)) ∙ rw (edition, nodes, arcs, meetings)

@@ -8,7 +8,7 @@ use mathlib.Core.List.{List, [], _∷_, _++_, append-assoc, append-nil}
 use mathlib.Core.Option.{some}
 use native.Mathlib.Omega.{arith}
 use native.Mathlib.Nat.{add-zero}
-use lib.ListN.{length, drop, set, length-append, length-take, length-drop}
+use lib.ListN.{length, drop, set, length-append}
 use lib.Dec.{leb, eqb}
 use lib.Seq.{sets}
 use borrow.Author.Tests.{eq-eqb, ne-eqb, not-true, not-false}
@@ -17,7 +17,9 @@ use Rattle.lines.specs.Line as line
 use Rattle.lines.specs.code.Characters.{part}
 use Rattle.lines.specs.declared.Line.{Line}
 use Rattle.lines.specs.declared.Line.the-variants.{Found, NoLine, End}
-use Rattle.lines.proofs.Laws.{IsLine, is-line, not-a-line, none-left, part-some}
+use Rattle.lines.proofs.Laws.{IsLine, is-line, not-a-line, none-left, past}
+use Rattle.numbers.specs.code.Numbers.{read-bytes}
+use Rattle.numbers.proofs.Laws.{bytes-read}
 use Rattle.tables.proofs.Kept.{sets-snoc}
 use Rattle.rules.specs.Track.{Label, Pair}
 use Rattle.graphs.specs.Parsed.{opening, frame-of, pair-at, a-node, the-last, refusal, first-refusal, verdict}
@@ -31,7 +33,6 @@ use Rattle.parsing.specs.declared.TrackOpened.{TrackOpened}
 use Rattle.parsing.specs.declared.TrackOpened.the-variants.{Track, Fails}
 use Rattle.parsing.specs.declared.Lines.{Lines}
 use Rattle.parsing.specs.declared.Lines.the-variants.{Goes, Stops}
-use Rattle.parsing.proofs.Dues.{formed-parts, node-due, pair-formed}
 
 -- an answer that is no found line
 abbrev pub NotFound : Line → Type 0
@@ -41,19 +42,13 @@ NotFound l = (e n : ℕ) → l ≡ Found e n → ⊥
 pub record Held (text : List ℕ) (at next : ℕ) (cs : List ℕ) : Type 0 where
   pub end : ℕ
   pub line : IsLine text at end next
-  pub stands : bytes cs ≡ some (line .held)
+  pub stands : line .held ≡ read-bytes cs
 
 pub held-line : (text : List ℕ) (at : ℕ) {l : Line} {e next : ℕ} {cs : List ℕ}
     → l ≡ answer at (lines (drop at text)) → l ≡ Found e next → cs ≡ part text at e → Held text at next cs
 held-line text at {l} {e} {next} {cs} seen found chars =
     let i = is-line text at e next (sym seen ∙ found) in
-    record { end = e; line = i; stands = ap bytes chars ∙ i .stands }
-
--- where the line behind a line begins
-past : (text : List ℕ) (at e next : ℕ) → IsLine text at e next → at + length (part text at e) + 1 ≡ next
-past text at e next i =
-    let c = ap length (part-some text at e (omega arith) (omega arith)) in
-    omega (arith, length-take (e - at) (drop at text), length-drop at text)
+    record { end = e; line = i; stands = sym (bytes-read cs (i .held) (ap bytes chars ∙ i .stands)) }
 
 -- a line that is due
 module _ {A : Type 0} (stops : ℕ → A) (meets : List ℕ → ℕ) (leads : List ℕ → ℕ → List Raw → A)
@@ -71,22 +66,22 @@ module _ {A : Type 0} (stops : ℕ → A) (meets : List ℕ → ℕ) (leads : Li
       → stops x ≡ here
   none-stops {l} q h e = ap stops e ∙ no-line l q h
 
-  module _ {next : ℕ} {cs : List ℕ} (i : Held text at next cs) {x : ℕ} (met : x ≡ meets (i .line .held)) where
+  module _ {next : ℕ} {cs : List ℕ} (i : Held text at next cs) {x : ℕ} (met : x ≡ meets (read-bytes cs)) where
     abbrev framed : A
-    framed = by-frame stops meets leads next (lines (drop next text)) (some (i .line .held))
+    framed = by-frame stops meets leads next (lines (drop next text)) (some (read-bytes cs))
 
     is-framed : framed ≡ here
     unfolding line-read characters
-    is-framed = rw (i .line .first, i .line .framed, past text at (i .end) next (i .line))
+    is-framed = rw (i .line .first, i .line .framed, i .stands, past text at (i .end) next (i .line))
 
     pub line-stops : (x ≡ 0 → ⊥) → stops x ≡ here
     unfolding by-frame
     line-stops h = let e : stops x ≡ framed = rw (← met) (simp (ne-eqb x 0 h)) in e ∙ is-framed
 
-    pub line-leads : x ≡ 0 → leads (i .line .held) next (lines (drop next text)) ≡ here
+    pub line-leads : x ≡ 0 → leads (read-bytes cs) next (lines (drop next text)) ≡ here
     unfolding by-frame
     line-leads h =
-        let e : leads (i .line .held) next (lines (drop next text)) ≡ framed =
+        let e : leads (read-bytes cs) next (lines (drop next text)) ≡ framed =
         rw (← met) (simp (eq-eqb x 0 h)) in
         e ∙ is-framed
 
@@ -104,12 +99,12 @@ module _ (text : List ℕ) where
   opened-none q h e = none-stops Fails first-met counted-on text 0 q h e
 
   module _ {next : ℕ} {cs : List ℕ} (i : Held text 0 next cs) where
-    pub opened-stops : {x : ℕ} → x ≡ first-refusal (frame-of (i .line .held)) → (x ≡ 0 → ⊥)
+    pub opened-stops : {x : ℕ} → x ≡ first-refusal (frame-of (read-bytes cs)) → (x ≡ 0 → ⊥)
         → Fails x ≡ opened (lines text)
     unfolding opened
     opened-stops e h = line-stops Fails first-met counted-on text 0 i e h
 
-    module _ {e n a s : ℕ} (opens : frame-of (i .line .held) ≡ opening e n a s) {b : Bool}
+    module _ {e n a s : ℕ} (opens : frame-of (read-bytes cs) ≡ opening e n a s) {b : Bool}
         (tested : b ≡ not (eqb e 1 && (leb n 4096 && (leb a 8192 && leb s 4096)))) where
       abbrev fit : Bool
       fit = eqb e 1 && (leb n 4096 && (leb a 8192 && leb s 4096))
@@ -122,8 +117,8 @@ module _ (text : List ℕ) where
       pub opened-inside : b ≡ false → Track n a s next ≡ opened (lines text)
       unfolding opened first-refusal counts
       opened-inside h =
-          let met : 0 ≡ first-refusal (frame-of (i .line .held)) = rw (opens, not-false fit (sym tested ∙ h)) in
-          let told : Track n a s next ≡ counts next (frame-of (i .line .held)) = rw opens in
+          let met : 0 ≡ first-refusal (frame-of (read-bytes cs)) = rw (opens, not-false fit (sym tested ∙ h)) in
+          let told : Track n a s next ≡ counts next (frame-of (read-bytes cs)) = rw opens in
           told ∙ line-leads Fails first-met counted-on text 0 i met refl
 
 -- the last line, and what stands behind it
@@ -156,12 +151,12 @@ module _ (text : List ℕ) (at k : ℕ) where
   last-none q h e = none-stops halted last-met ended-on text at q h e
 
   module _ {next : ℕ} {cs : List ℕ} (i : Held text at next cs) where
-    pub last-stops : 2 ≡ refusal 0 0 the-last (frame-of (i .line .held))
+    pub last-stops : 2 ≡ refusal 0 0 the-last (frame-of (read-bytes cs))
         → Stops 2 k ≡ last-read k at (lines (drop at text))
     unfolding last-read
     last-stops met = line-stops halted last-met ended-on text at i met (λ q. omega (arith, q))
 
-    pub last-goes : 0 ≡ refusal 0 0 the-last (frame-of (i .line .held)) → {t : Lines}
+    pub last-goes : 0 ≡ refusal 0 0 the-last (frame-of (read-bytes cs)) → {t : Lines}
         → t ≡ none-read (k + 1) next (lines (drop next text)) → t ≡ last-read k at (lines (drop at text))
     unfolding last-read
     last-goes met e = e ∙ line-leads halted last-met ended-on text at i met refl
@@ -220,16 +215,16 @@ module _ {A : Type 0} (meets : List ℕ → ℕ) (says : List ℕ → A) (text :
           → {j : ℕ} → j ≡ k + i → Ends new (Stops x j)
       none-ends q h e {j} n = rw n (ends (one-more ∙ sym (none-stops halts meets others text at q h e)))
 
-      module _ {next : ℕ} {cs : List ℕ} (c : Held text at next cs) {x : ℕ} (met : x ≡ meets (c .line .held)) where
+      module _ {next : ℕ} {cs : List ℕ} (c : Held text at next cs) {x : ℕ} (met : x ≡ meets (read-bytes cs)) where
         pub line-ends : (x ≡ 0 → ⊥) → {j : ℕ} → j ≡ k + i → Ends new (Stops x j)
         line-ends h {j} n = rw n (ends (one-more ∙ sym (line-stops halts meets others text at c met h)))
 
-        pub line-more : x ≡ 0 → {new′ : List ℕ} → new′ ≡ column (s .so-said ++ (says (c .line .held) ∷ []))
+        pub line-more : x ≡ 0 → {new′ : List ℕ} → new′ ≡ column (s .so-said ++ (says (read-bytes cs) ∷ []))
             → Sofar new′ (i + 1) next
         line-more z {new′} e =
             let l : k + i + 1 ≡ k + (i + 1) = omega arith in
             let left = lines-read meets says (m - (i + 1)) (k + i + 1) next (lines (drop next text)) in
-            let one = says (c .line .held) ∷ [] in
+            let one = says (read-bytes cs) ∷ [] in
             record {
               so-said = s .so-said ++ one;
               counted = omega (arith, s .counted, length-append (s .so-said) one);
@@ -262,15 +257,13 @@ module _ (text : List ℕ) (d n : ℕ) (ks xs rs : List ℕ) (from : ℕ) (old :
   nodes-none = sofar-none _ _ _ _ _ _ _ refl
 
   pub node-more : {new : List ℕ} {k at : ℕ} → NodesSofar new k at → k < n → {next : ℕ} {cs : List ℕ}
-      → (i : Held text at next cs) {r : ℕ} → r ≡ refusal d n a-node (frame-of (i .line .held)) → r ≡ 0 → {m : ℕ}
-      → ((bs : List ℕ) → bytes cs ≡ some bs → 5 ≤ length bs → m ≡ mark-of ks xs rs k (label-at bs))
-      → NodesSofar (set new k m) (k + 1) next
-  node-more {new} {k} {at} s more i met z {m} marked =
-      let bs = i .line .held in
+      → (i : Held text at next cs) {r : ℕ} → r ≡ refusal d n a-node (frame-of (read-bytes cs)) → r ≡ 0 → {m : ℕ}
+      → m ≡ mark-of ks xs rs k (label-at (read-bytes cs)) → NodesSofar (set new k m) (k + 1) next
+  node-more {new} {k} {at} s more {next} {cs} i met z {m} marked =
+      let bs = read-bytes cs in
       let ls = s .so-said in
-      let long = node-due bs d n (sym met ∙ z) .1 in
       let mark : m ≡ mark-of ks xs rs (0 + length ls) (label-at bs) =
-      marked bs (i .stands) long ∙ ap (λ (j : ℕ). mark-of ks xs rs j (label-at bs)) (omega (arith, s .counted)) in
+      marked ∙ ap (λ (j : ℕ). mark-of ks xs rs j (label-at bs)) (omega (arith, s .counted)) in
       let place : k ≡ 0 + length (marks-of ks xs rs 0 ls) = omega (arith, s .counted, marks-length ks xs rs 0 ls) in
       line-more _ _ _ _ _ _ _ s more i met z
       (ap (λ (w : List ℕ). set w k m) (s .holds)
@@ -299,17 +292,14 @@ module _ (text : List ℕ) (c n m k from b : ℕ) (old : List ℕ) where
   pairs-none = sofar-none _ _ _ _ _ _ _ refl
 
   pub pair-more : {new : List ℕ} {i at : ℕ} → PairsSofar new i at → i < m → {next : ℕ} {cs : List ℕ}
-      → (j : Held text at next cs) {r : ℕ} → r ≡ pair-refusal n c (j .line .held) → r ≡ 0 → {x y w v : ℕ}
-      → (3 ≤ length (j .line .held) → x ≡ number-at 1 (j .line .held)) → x < 65536
-      → (5 ≤ length (j .line .held) → y ≡ number-at 3 (j .line .held)) → y < 65536
+      → (j : Held text at next cs) {r : ℕ} → r ≡ pair-refusal n c (read-bytes cs) → r ≡ 0 → {x y w v : ℕ}
+      → x ≡ number-at 1 (read-bytes cs) → x < 65536 → y ≡ number-at 3 (read-bytes cs) → y < 65536
       → w ≡ b + 2 * i → v ≡ w + 1
       → PairsSofar (set (set new w (x % 65536)) v (y % 65536)) (i + 1) next
-  pair-more {new} {i} s more j met z {x} {y} {w} {v} x-read x-fits y-read y-fits w-is v-is =
-      let bs = j .line .held in
-      let long = formed-parts c 5 bs (pair-formed bs n c (sym met ∙ z)) .1 in
-      let a = pair-at bs in
-      let x-is : x % 65536 ≡ a .from = (omega arith) ∙ x-read (omega (arith, long)) in
-      let y-is : y % 65536 ≡ a .to = (omega arith) ∙ y-read (omega (arith, long)) in
+  pair-more {new} {i} s more {next} {cs} j met z {x} {y} {w} {v} x-read x-fits y-read y-fits w-is v-is =
+      let a = pair-at (read-bytes cs) in
+      let x-is : x % 65536 ≡ a .from = (omega arith) ∙ x-read in
+      let y-is : y % 65536 ≡ a .to = (omega arith) ∙ y-read in
       let ws = flat (s .so-said) in
       let there : w ≡ b + length ws = omega (arith, flat-length (s .so-said), s .counted) in
       let there-to : v ≡ b + length (ws ++ (a .from ∷ [])) =

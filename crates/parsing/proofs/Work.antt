@@ -257,7 +257,7 @@ module _ (text : List ℕ) (d n : ℕ) (ds : List Due) (from : ℕ) where
   nodes-lead =
       let t = nodes-read d n text from in
       lines-lead text d n a-node ds (λ bs. refusal d n a-node (frame-of bs)) label-at labelled (λ bs. refl)
-      (λ bs z ls. rw (node-due bs d n z .0)) n 2 from []
+      (λ bs z ls. rw (node-due bs d n z)) n 2 from []
       ∙ ap (λ (k : ℕ). onward (λ next. rest d n ds (labelled (t .said)) k (lines (drop next text))) (t .answer))
       (omega arith)
 

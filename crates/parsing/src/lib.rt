@@ -27,13 +27,12 @@ use rules::MEETING_ROOM;
 use rules::NODE_ROOM;
 ghost use mathlib.Core.Path.{_≡_};
 ghost use mathlib.Core.Bool.{_&&_, not};
-ghost use mathlib.Core.List.{List};
-ghost use mathlib.Core.Option.{some};
 ghost use Prim.Native.Nat.{ℕ, _+_, _*_, _≤_};
 ghost use lib.ListN.{drop};
 ghost use lib.Dec.{leb, eqb};
 ghost use lib.Seq.{sets};
-ghost use Rattle.lines.specs.Line.{lines, bytes};
+ghost use Rattle.lines.specs.Line.{lines};
+ghost use Rattle.numbers.specs.code.Numbers.{read-bytes};
 ghost use Rattle.graphs.specs.Parsed.{refusal, frame-of, a-node};
 ghost use Rattle.links.specs.words.Columns.{flat};
 ghost use Rattle.finding.specs.code.Found.{marks-of};
@@ -71,7 +70,7 @@ pub fn first_line(text: &[u8]) -> TrackOpened
         return TrackOpened::Fails(refusal_of(line));
     };
     let chars = characters(text, 0, end);
-    if chars.len() != 16 {
+    if chars.len() / 2 != 8 {
         return TrackOpened::Fails(WRONG_FRAME);
     }
     if byte(chars, 0) != TRACK_FRAME {
@@ -153,8 +152,7 @@ pub fn read_nodes(
 
 // The number that a line meets where a node is due, 0 where it meets none.
 fn node_refusal(chars: &[u8], definitions: usize) -> u8
-    ensures { λ r. ⌜ ((bs : List ℕ) → bytes (now (chars .entry)) ≡ some bs
-        → (n : ℕ) → r ≡ refusal definitions n a-node (frame-of bs)) ⌝ }
+    ensures { λ r. ⌜ ((n : ℕ) → r ≡ refusal definitions n a-node (frame-of (read-bytes (now (chars .entry))))) ⌝ }
 {
     let count = chars.len() / 2;
     if byte(chars, 0) != NODE_FRAME {
@@ -218,9 +216,9 @@ pub fn read_pairs(
 
 // The number that a line meets where a pair is due, 0 where it meets none.
 fn pair_refusal(code: u8, chars: &[u8], nodes: usize) -> u8
-    ensures { λ r. ⌜ ((bs : List ℕ) → bytes (now (chars .entry)) ≡ some bs → r ≡ of.pair-refusal nodes code bs) ⌝ }
+    ensures { λ r. ⌜ r ≡ of.pair-refusal nodes code (read-bytes (now (chars .entry))) ⌝ }
 {
-    if chars.len() != 10 {
+    if chars.len() / 2 != 5 {
         return WRONG_FRAME;
     }
     if byte(chars, 0) != code {
@@ -248,7 +246,7 @@ pub fn last_lines(text: &[u8], at: usize, line: usize) -> Lines
         };
     };
     let chars = characters(text, at, end);
-    if chars.len() != 2 {
+    if chars.len() / 2 != 1 {
         return Lines::Stops {
             number: WRONG_FRAME,
             line,

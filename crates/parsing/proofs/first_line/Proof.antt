@@ -32,7 +32,7 @@ returns-2 c =
     let at-next-line = at-line .before .before in
     let i = held-line _ 0 (at-next-line .next-line .ensures) (at-line .line .given .1)
     (c .before .characters .ensures) in
-    opened-stops _ i (opening-length _ _ (i .stands) (c .if1 .taken)) (λ q. omega (arith, q))
+    opened-stops _ i (opening-length _ (c .if1 .taken)) (λ q. omega (arith, q))
 
 byte-requires : tie.Need-byte-requires
 byte-requires c κs = search needs
@@ -44,7 +44,7 @@ returns-3 c =
     let at-next-line = at-line .before .before in
     let i = held-line _ 0 (at-next-line .next-line .ensures) (at-line .line .given .1)
     (at-characters .characters .ensures) in
-    opened-stops _ i (opening-tag _ _ (i .stands) (c .before .byte .ensures) (c .if2 .taken))
+    opened-stops _ i (opening-tag _ (c .before .byte .ensures) (c .if2 .taken))
     (λ q. omega (arith, q))
 
 number-at-requires : tie.Need-number-at-requires
@@ -76,11 +76,11 @@ returns-4 c =
     let at-next-line = at-line .before .before in
     let i = held-line _ 0 (at-next-line .next-line .ensures) (at-line .line .given .1)
     (at-characters .characters .ensures) in
-    let opens = opening-read _ _ (i .stands) (at-if1 .if1 .left) (at-byte .byte .ensures)
+    let opens = opening-read _ (at-if1 .if1 .left) (at-byte .byte .ensures)
     (at-if2 .if2 .left) (at-byte2 .byte2 .ensures)
-    (at-number-at .number-at .ensures .0 _ (i .stands))
-    (at-number-at2 .number-at2 .ensures .0 _ (i .stands))
-    (at-number-at3 .number-at3 .ensures .0 _ (i .stands)) in
+    (at-number-at .number-at .ensures .0)
+    (at-number-at2 .number-at2 .ensures .0)
+    (at-number-at3 .number-at3 .ensures .0) in
     opened-outside _ i opens (c .before .counts-outside .ensures) (c .if3 .taken)
 
 returns-5 : tie.Need-returns-5
@@ -97,11 +97,11 @@ returns-5 c =
     let at-next-line = at-line .before .before in
     let i = held-line _ 0 (at-next-line .next-line .ensures) (at-line .line .given .1)
     (at-characters .characters .ensures) in
-    let opens = opening-read _ _ (i .stands) (at-if1 .if1 .left) (at-byte .byte .ensures)
+    let opens = opening-read _ (at-if1 .if1 .left) (at-byte .byte .ensures)
     (at-if2 .if2 .left) (at-byte2 .byte2 .ensures)
-    (at-number-at .number-at .ensures .0 _ (i .stands))
-    (at-number-at2 .number-at2 .ensures .0 _ (i .stands))
-    (at-number-at3 .number-at3 .ensures .0 _ (i .stands)) in
+    (at-number-at .number-at .ensures .0)
+    (at-number-at2 .number-at2 .ensures .0)
+    (at-number-at3 .number-at3 .ensures .0) in
     opened-inside _ i opens (c .before .counts-outside .ensures) (c .if3 .left)
 
 pub first-line-spec : {M : Type 1} → statement M

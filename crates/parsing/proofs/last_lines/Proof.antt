@@ -31,7 +31,7 @@ returns-2 c =
     let at-next-line = at-found .before .before in
     let i = held-line _ _ (at-next-line .next-line .ensures) (at-found .found .given .1)
     (c .before .characters .ensures) in
-    last-stops _ _ _ i (last-length _ _ (i .stands) (c .if1 .taken))
+    last-stops _ _ _ i (last-length _ (c .if1 .taken))
 
 byte-requires : tie.Need-byte-requires
 byte-requires c κs = search needs
@@ -43,7 +43,7 @@ returns-3 c =
     let at-next-line = at-found .before .before in
     let i = held-line _ _ (at-next-line .next-line .ensures) (at-found .found .given .1)
     (at-characters .characters .ensures) in
-    last-stops _ _ _ i (last-tag _ _ (i .stands) (c .before .byte .ensures) (c .if2 .taken))
+    last-stops _ _ _ i (last-tag _ (c .before .byte .ensures) (c .if2 .taken))
 
 add-behind-last : tie.Need-add-behind-last
 add-behind-last c = search needs
@@ -61,7 +61,7 @@ returns-4 c =
     let i = held-line _ _ (at-next-line .next-line .ensures) (at-found .found .given .1)
     (at-characters .characters .ensures) in
     last-goes _ _ _ i
-    (last-fits _ _ (i .stands) (at-byte .byte .ensures) (at-if1 .if1 .left) (c .before .if2 .left))
+    (last-fits _ (at-byte .byte .ensures) (at-if1 .if1 .left) (c .before .if2 .left))
     (c .behind-last .ensures)
 
 pub last-lines-spec : {M : Type 1} → statement M

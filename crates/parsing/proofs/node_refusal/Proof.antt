@@ -8,7 +8,7 @@ byte-requires : tie.Need-byte-requires
 byte-requires c κs = search needs
 
 returns : tie.Need-returns
-returns c = λ bs e n. node-tag _ bs e _ n (c .before .byte .ensures) (c .if1 .taken)
+returns c = λ n. node-tag _ _ n (c .before .byte .ensures) (c .if1 .taken)
 
 byte-at-requires : tie.Need-byte-at-requires
 byte-at-requires c κs = search needs
@@ -19,15 +19,15 @@ add-if2 c = search needs
 returns-2 : tie.Need-returns-2
 returns-2 c =
     let at-byte = c .before .before .before in
-    λ bs e n. node-length _ bs e _ n (at-byte .byte .ensures) (c .before .byte-at .ensures .0) (c .if2 .taken)
+    λ n. node-length _ _ n (at-byte .byte .ensures) (c .before .byte-at .ensures .0) (c .if2 .taken)
 
 returns-3 : tie.Need-returns-3
 returns-3 c =
     let at-byte-at = c .before .before in
     let at-if1 = at-byte-at .before in
     let at-byte = at-if1 .before in
-    λ bs e n.
-    path-past _ bs e _ n (at-byte .byte .ensures) (at-byte-at .byte-at .ensures .0) (at-if1 .if1 .left)
+    λ n.
+    path-past _ _ n (at-byte .byte .ensures) (at-byte-at .byte-at .ensures .0) (at-if1 .if1 .left)
     (c .before .if2 .left) (c .if3 .taken)
 
 byte-at-requires-2 : tie.Need-byte-at-requires-2
@@ -40,8 +40,8 @@ returns-4 c =
     let at-byte-at = at-if2 .before in
     let at-if1 = at-byte-at .before in
     let at-byte = at-if1 .before in
-    λ bs e n.
-    definition-past _ bs e _ n (at-byte .byte .ensures) (at-byte-at .byte-at .ensures .0)
+    λ n.
+    definition-past _ _ n (at-byte .byte .ensures) (at-byte-at .byte-at .ensures .0)
     (at-if1 .if1 .left)
     (at-if2 .if2 .left) (at-if3 .if3 .left)
     (c .before .byte-at2 .ensures .0) (c .if4 .taken)
@@ -53,8 +53,8 @@ returns-5 c =
     let at-byte-at = at-if2 .before in
     let at-if1 = at-byte-at .before in
     let at-byte = at-if1 .before in
-    λ bs e n.
-    node-fits _ bs e _ n (at-byte .byte .ensures) (at-byte-at .byte-at .ensures .0) (at-if1 .if1 .left)
+    λ n.
+    node-fits _ _ n (at-byte .byte .ensures) (at-byte-at .byte-at .ensures .0) (at-if1 .if1 .left)
     (at-if2 .if2 .left) (at-if3 .if3 .left)
     (c .before .byte-at2 .ensures .0) (c .if4 .left)
 

@@ -5,13 +5,13 @@ use Rattle.parsing.proofs.pair_refusal.Statement.{statement}
 use Rattle.parsing.proofs.pair_refusal.Tie as tie
 
 returns : tie.Need-returns
-returns c = λ bs e. pair-length _ bs e _ _ (c .if1 .taken)
+returns c = pair-length _ _ _ (c .if1 .taken)
 
 byte-requires : tie.Need-byte-requires
 byte-requires c κs = search needs
 
 returns-2 : tie.Need-returns-2
-returns-2 c = λ bs e. pair-tag _ bs e _ _ (c .before .byte .ensures) (c .if2 .taken)
+returns-2 c = pair-tag _ _ _ (c .before .byte .ensures) (c .if2 .taken)
 
 number-at-requires : tie.Need-number-at-requires
 number-at-requires c κs = search needs
@@ -21,9 +21,8 @@ returns-3 c =
     let at-if2 = c .before .before in
     let at-byte = at-if2 .before in
     let at-if1 = at-byte .before in
-    λ bs e.
-    from-past _ bs e _ _ (at-byte .byte .ensures) (at-if1 .if1 .left) (at-if2 .if2 .left)
-    (c .before .number-at .ensures .0 bs e) (c .if3 .taken)
+    from-past _ _ _ (at-byte .byte .ensures) (at-if1 .if1 .left) (at-if2 .if2 .left)
+    (c .before .number-at .ensures .0) (c .if3 .taken)
 
 number-at-requires-2 : tie.Need-number-at-requires-2
 number-at-requires-2 c κs = search needs
@@ -35,10 +34,9 @@ returns-4 c =
     let at-if2 = at-number-at .before in
     let at-byte = at-if2 .before in
     let at-if1 = at-byte .before in
-    λ bs e.
-    to-past _ bs e _ _ (at-byte .byte .ensures) (at-if1 .if1 .left) (at-if2 .if2 .left)
-    (at-number-at .number-at .ensures .0 bs e) (at-if3 .if3 .left)
-    (c .before .number-at2 .ensures .0 bs e) (c .if4 .taken)
+    to-past _ _ _ (at-byte .byte .ensures) (at-if1 .if1 .left) (at-if2 .if2 .left)
+    (at-number-at .number-at .ensures .0) (at-if3 .if3 .left)
+    (c .before .number-at2 .ensures .0) (c .if4 .taken)
 
 returns-5 : tie.Need-returns-5
 returns-5 c =
@@ -47,10 +45,9 @@ returns-5 c =
     let at-if2 = at-number-at .before in
     let at-byte = at-if2 .before in
     let at-if1 = at-byte .before in
-    λ bs e.
-    pair-fits _ bs e _ _ (at-byte .byte .ensures) (at-if1 .if1 .left) (at-if2 .if2 .left)
-    (at-number-at .number-at .ensures .0 bs e) (at-if3 .if3 .left)
-    (c .before .number-at2 .ensures .0 bs e) (c .if4 .left)
+    pair-fits _ _ _ (at-byte .byte .ensures) (at-if1 .if1 .left) (at-if2 .if2 .left)
+    (at-number-at .number-at .ensures .0) (at-if3 .if3 .left)
+    (c .before .number-at2 .ensures .0) (c .if4 .left)
 
 pub pair-refusal-spec : {M : Type 1} → statement M
 pair-refusal-spec =

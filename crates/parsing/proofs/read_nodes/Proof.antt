@@ -57,7 +57,7 @@ returns-2 c =
     let i = held-line _ _ (at-next-line .next-line .ensures) (at-found .found .given .1)
     (at-characters .characters .ensures) in
     line-ends _ _ _ _ _ _ _ (at-loop .loop .inv .1) (at-loop-test .loop-test .taken) i
-    (c .before .node-refusal .ensures _ (i .stands) _)
+    (c .before .node-refusal .ensures _)
     (c .if1 .taken)
     (omega arith)
 
@@ -87,7 +87,7 @@ loop-again c =
     let i = held-line _ _ (at-next-line .next-line .ensures) (at-found .found .given .1)
     (at-characters .characters .ensures) in
     let turn = node-more _ _ _ _ _ _ _ _ (at-loop .loop .inv .1) (at-loop-test .loop-test .taken) i
-    (at-node-refusal .node-refusal .ensures _ (i .stands) _) (c .before .if1 .left)
+    (at-node-refusal .node-refusal .ensures _) (c .before .if1 .left)
     (c .mark-of .ensures) in
     (omega (arith, at-loop-test .loop-test .taken), turn)
 

@@ -58,7 +58,7 @@ returns-2 c =
     let i = held-line _ _ (at-next-line .next-line .ensures) (at-found .found .given .1)
     (at-characters .characters .ensures) in
     line-ends _ _ _ _ _ _ _ (at-loop .loop .inv .1) (at-loop-test .loop-test .taken) i
-    (c .before .pair-refusal .ensures _ (i .stands))
+    (c .before .pair-refusal .ensures)
     (c .if1 .taken)
     refl
 
@@ -114,9 +114,9 @@ loop-again c =
     (at-characters .characters .ensures) in (
       omega (arith, at-loop-test .loop-test .taken),
       pair-more _ _ _ _ _ _ _ _ (at-loop .loop .inv .1) (at-loop-test .loop-test .taken) i
-          (at-pair-refusal .pair-refusal .ensures _ (i .stands)) (at-if1 .if1 .left)
-          (c .before .number-at .ensures .0 _ (i .stands)) (c .before .number-at .ensures .1)
-          (c .number-at2 .ensures .0 _ (i .stands)) (c .number-at2 .ensures .1) refl refl,
+          (at-pair-refusal .pair-refusal .ensures) (at-if1 .if1 .left)
+          (c .before .number-at .ensures .0) (c .before .number-at .ensures .1)
+          (c .number-at2 .ensures .0) (c .number-at2 .ensures .1) refl refl,
     )
 
 returns-3 : tie.Need-returns-3 Inv-loop μ-loop
