@@ -42,16 +42,13 @@ module _ (cs : List ℕ) where
   abbrev bs : List ℕ
   bs = read-bytes cs
 
-  counted : length bs ≡ length cs / 2
-  counted = read-length cs
-
   -- the mark of node 0
   abbrev start : ℕ
   start = start-here (place-at bs)
 
   pub start-length : (length cs / 2 ≡ 6 → ⊥) → 0 ≡ start
   start-length h =
-      let other = same-one (drop 5 bs) (λ q. h (omega (arith, counted, length-drop 5 bs, q))) in
+      let other = same-one (drop 5 bs) (λ q. h (omega (arith, read-length cs, length-drop 5 bs, q))) in
       simp (other, and-false (eqb (getD bs 3 0) 0))
 
   module _ {k : ℕ} (definition : k ≡ byteAt cs 3) where
@@ -62,7 +59,7 @@ module _ (cs : List ℕ) where
       start-by : start ≡ choose (eqb x 0 && true) start-mark 0
       unfolding same
       start-by =
-          let six : length bs ≡ 6 = omega (arith, counted) in
+          let six : length bs ≡ 6 = omega (arith, read-length cs) in
           let path = drop-cons bs 5 0 (omega arith) in
           let ends = drop-of-length-le bs {i = 6} (omega arith) in
           simp (sym definition, eq-eqb k 0 first, path, ends, sym digit)
@@ -77,7 +74,7 @@ module _ (cs : List ℕ) where
     -- at the path's end
     pub found-end : (t i : ℕ) → length cs / 2 ≤ i → own-here t ≡ find ks xs t (drop i bs)
     unfolding find
-    found-end t i h = rw (drop-of-length-le bs {i = i} (omega (arith, counted)))
+    found-end t i h = rw (drop-of-length-le bs {i = i} (omega (arith, read-length cs)))
 
     -- one digit more, from a term with n subterms
     module _ (t i : ℕ) (more : i < length cs / 2) {x n : ℕ} (digit : x ≡ byteAt cs i)
@@ -90,7 +87,7 @@ module _ (cs : List ℕ) where
           (choose (eqb x 1) (choose (eqb n 2) (find ks xs (suc t) behind) (event-end t behind))
           (choose (eqb x 2) (find ks xs (choose (eqb n 2) (look 1024 xs (suc t)) (suc t)) behind) 0))
       unfolding find
-      step = rw (drop-cons bs i 0 (omega (arith, counted)), ← count, ← digit)
+      step = rw (drop-cons bs i 0 (omega (arith, read-length cs)), ← count, ← digit)
 
       pub found-leaf : n ≡ 0 → 0 ≡ find ks xs t (drop i bs)
       found-leaf h = rw step (simp (eq-eqb n 0 h))
@@ -116,10 +113,10 @@ module _ (cs : List ℕ) where
                     → m ≡ event-end t behind
                 go true e q =
                     let l = eqb-true (i + 1) (length cs / 2) (sym q) in
-                    rw (drop-of-length-le bs {i = suc i} (omega (arith, counted, l))) e
+                    rw (drop-of-length-le bs {i = suc i} (omega (arith, read-length cs, l))) e
                 go false e q =
                     let l = eqb-false (i + 1) (length cs / 2) (sym q) in
-                    rw (drop-cons bs (suc i) 0 (omega (arith, counted, l, more))) e
+                    rw (drop-cons bs (suc i) 0 (omega (arith, read-length cs, l, more))) e
 
         module _ (other : x ≡ 1 → ⊥) where
           pub found-astray : (x ≡ 2 → ⊥) → 0 ≡ find ks xs t (drop i bs)

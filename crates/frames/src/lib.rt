@@ -60,7 +60,7 @@ pub struct Seen {
     pub depth: usize,
 }
 
-// The frame that a line's characters stand for.
+// The frame that the bytes of characters are.
 pub fn read_frame(chars: &[u8]) -> Frame
     ensures { λ r. ⌜ r ≡ frame-of (read-bytes (now (chars .entry))) ⌝ }
 {

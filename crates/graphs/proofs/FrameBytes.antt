@@ -130,7 +130,7 @@ settled-by true h k w = h refl
 settled-by false h k w = k w
 
 -- what `formed` tests
-formed-parts : (b n : ℕ) (bs : List ℕ) → formed b n bs ≡ true → (getD bs 0 0 ≡ b) × (length bs ≡ n)
+pub formed-parts : (b n : ℕ) (bs : List ℕ) → formed b n bs ≡ true → (getD bs 0 0 ≡ b) × (length bs ≡ n)
 formed-parts b n bs e =
     let i = both (eqb (getD bs 0 0) b) (eqb (length bs) n) e in
     (eqb-true (getD bs 0 0) b (i .0), eqb-true (length bs) n (i .1))

@@ -7,7 +7,7 @@ ghost use Rattle.lines.specs.Line.{number-at};
 
 const LOW_56_BITS: u64 = 72057594037927936;
 
-// Byte number k of a line's characters, 0 where they have no such byte.
+// Byte number k of the characters, 0 where they have no such byte.
 pub fn byte(chars: &[u8], k: usize) -> u8
     ensures { λ r. ⌜ r ≡ byteAt (now (chars .entry)) k ⌝ }
 {
@@ -45,7 +45,7 @@ fn value_of(c: u8) -> u8
     c % 16 + c / 64 * 9
 }
 
-// The number of two bytes from byte k on.
+// The number of two bytes from byte k on; a byte that there is not counts as 0.
 pub fn number_at(chars: &[u8], k: usize) -> usize
     requires { ⌜ k ≤ 6 ⌝ }
     ensures { λ r. ⌜ r ≡ number-at k (read-bytes (now (chars .entry))) ⌝ }

@@ -16,14 +16,18 @@ use Rattle.graphs.specs.Parsed.{Due, a-node, an-arc, a-meeting, the-last, dues,
 use Rattle.graphs.specs.Parsed.{Parsed, rest, parsed}
 use Rattle.links.specs.words.Columns.{flat}
 use Rattle.finding.specs.code.Found.{marks-of}
-use Rattle.parsing.specs.code.Phases.{opened, Told, nodes-read, pairs-read, last-read}
-use Rattle.parsing.specs.declared.TrackOpened.{TrackOpened}
-use Rattle.parsing.specs.declared.TrackOpened.the-variants.{Track, Fails}
-use Rattle.parsing.specs.declared.Lines.{Lines}
-use Rattle.parsing.specs.declared.Lines.the-variants.{Goes, Stops}
-use Rattle.parsing.proofs.Dues.{due-of, with-pairs}
-use Rattle.parsing.proofs.Work.{onward, goes-on, stops-there, begun, first-leads, Fits, opened-fits, all-said}
-use Rattle.parsing.proofs.Work.{labelled, nodes-lead, pairs-lead, last-leads}
+use Rattle.opening.specs.code.Phases.{Told}
+use Rattle.opening.specs.code.Ends.{opened, last-read}
+use Rattle.opening.specs.declared.TrackOpened.{TrackOpened}
+use Rattle.opening.specs.declared.TrackOpened.the-variants.{Track, Fails}
+use Rattle.opening.specs.declared.Lines.{Lines}
+use Rattle.opening.specs.declared.Lines.the-variants.{Goes, Stops}
+use Rattle.opening.proofs.Work.{onward, goes-on, stops-there, begun, first-leads, Fits, opened-fits, all-said}
+use Rattle.opening.proofs.Work.{last-leads}
+use Rattle.node_lines.specs.code.Nodes.{nodes-read}
+use Rattle.node_lines.proofs.Laws.{labelled, nodes-lead}
+use Rattle.pair_lines.specs.code.Pairs.{pairs-read}
+use Rattle.pair_lines.proofs.Laws.{due-of, with-pairs, pairs-lead}
 use Rattle.reading.specs.code.Outcome.{Held, answer, failed, stopped}
 use Rattle.reading.specs.declared.Read.{Read}
 use Rattle.reading.specs.declared.Read.the-variants.{Accepted, Refused}

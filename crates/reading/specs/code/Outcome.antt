@@ -12,10 +12,10 @@ use Rattle.graphs.specs.Parsed.{Parsed, says, refused, parsed}
 use Rattle.links.specs.words.Columns.{flat, counts-of}
 use Rattle.walks.specs.code.Walked.{laid}
 use Rattle.finding.specs.code.Found.{marks-of}
-use Rattle.parsing.specs.declared.TrackOpened.{TrackOpened}
-use Rattle.parsing.specs.declared.TrackOpened.the-variants.{Track, Fails}
-use Rattle.parsing.specs.declared.Lines.{Lines}
-use Rattle.parsing.specs.declared.Lines.the-variants.{Goes, Stops}
+use Rattle.opening.specs.declared.TrackOpened.{TrackOpened}
+use Rattle.opening.specs.declared.TrackOpened.the-variants.{Track, Fails}
+use Rattle.opening.specs.declared.Lines.{Lines}
+use Rattle.opening.specs.declared.Lines.the-variants.{Goes, Stops}
 use Rattle.shapes.specs.code.Rules.{shaped}
 use Rattle.reading.specs.declared.Read.{Read}
 use Rattle.reading.specs.declared.Read.the-variants.{Accepted, Refused}
