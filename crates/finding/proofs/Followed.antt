@@ -1,32 +1,34 @@
 -- The mark of a node by its line. The path is followed a digit at a time: what is found from a term on by the digits from
 -- byte i on is what is found from the next term on by those behind it. Assumes nothing.
-use Prim.Native.Nat.{ℕ, suc, _+_, _*_, _/_, _%_, _≤_, _<_}
+use Prim.Native.Nat.{ℕ, suc, _+_, _/_, _%_, _≤_, _<_}
 use mathlib.Core.Path.{_≡_, refl, sym}
 use mathlib.Core.Bool.{Bool, true, false, _&&_, and-false}
 use mathlib.Core.List.{List, [], _∷_}
-use mathlib.Core.Option.{some}
 use native.Mathlib.Omega.{arith}
 use lib.ListN.{length, drop, getD, length-drop, drop-of-length-le}
 use lib.Dec.{eqb}
 use lib.Seq.{drop-cons}
 use borrow.Author.Tests.{eqb-true, eqb-false, eq-eqb, ne-eqb, lt-ltb, le-ltb}
-use Rattle.lines.specs.Line.{choose, bytes, number-at}
-use Rattle.numbers.specs.code.Numbers.{byteAt}
-use Rattle.lines.proofs.Laws.{bytes-length}
+use Rattle.lines.specs.Line.{choose, number-at}
+use Rattle.numbers.specs.code.Numbers.{read-bytes, byteAt}
+use Rattle.numbers.proofs.Laws.{read-length}
 use Rattle.kinds.specs.Kind.{subterms}
 use Rattle.columns.specs.words.Columns.{look}
 use Rattle.places.specs.Place.{left-path}
+use Rattle.marks.specs.words.Mark.{start-mark, own-mark, event-mark}
+use Rattle.marks.proofs.Laws.{own-small}
 use Rattle.graphs.specs.Shape.{same}
-use Rattle.finding.specs.code.Found.{own-mark, event-mark, event-end, find, mark-of}
+use Rattle.graphs.specs.Parsed.{place-at}
+use Rattle.finding.specs.code.Found.{start-here, own-here, event-end, find, mark-of}
 use Rattle.finding.specs.words.Node.{label-at}
-use Rattle.numbers.proofs.Laws.{byte-held}
 
--- a term's own mark, by whether there is such a term
-pub own-none : (t : ℕ) → 1024 ≤ t → 0 ≡ own-mark t
-own-none t h = simp (le-ltb t 1024 h)
+-- a term's own literal, by whether there is such a term
+module _ (t : ℕ) where
+  pub own-none : 1024 ≤ t → 0 ≡ own-here t
+  own-none h = simp (le-ltb t 1024 h)
 
-pub own-some : (t : ℕ) → t < 1024 → (2 * t + 2) % 65536 ≡ own-mark t
-own-some t h = simp (lt-ltb t 1024 h) (omega arith)
+  pub own-found : t < 1024 → {m : ℕ} → m ≡ own-mark t → m % 65536 ≡ own-here t
+  own-found h {m} e = simp (lt-ltb t 1024 h) (omega (arith, own-small t))
 
 -- a list of another length is not the path 0
 same-one : (l : List ℕ) → (length l ≡ 1 → ⊥) → same l left-path ≡ false
@@ -35,44 +37,44 @@ same-one [] h = refl
 same-one (x ∷ []) h = absurd (h refl)
 same-one (x ∷ y ∷ l) h = and-false (eqb x 0)
 
--- the characters of a line, and its bytes
-module _ (cs bs : List ℕ) (stands : bytes cs ≡ some bs) where
-  counted : length cs ≡ 2 * length bs
-  counted = bytes-length cs bs stands
+-- the bytes of characters
+module _ (cs : List ℕ) where
+  abbrev bs : List ℕ
+  bs = read-bytes cs
 
   -- the mark of node 0
   abbrev start : ℕ
-  start = choose (eqb (getD bs 3 0) 0 && same (drop 5 bs) left-path) 1 0
+  start = start-here (place-at bs)
 
-  pub start-length : (length cs ≡ 12 → ⊥) → 0 ≡ start
+  pub start-length : (length cs / 2 ≡ 6 → ⊥) → 0 ≡ start
   start-length h =
-      let other = same-one (drop 5 bs) (λ q. h (omega (arith, counted, length-drop 5 bs, q))) in
+      let other = same-one (drop 5 bs) (λ q. h (omega (arith, read-length cs, length-drop 5 bs, q))) in
       simp (other, and-false (eqb (getD bs 3 0) 0))
 
   module _ {k : ℕ} (definition : k ≡ byteAt cs 3) where
     pub start-definition : (k ≡ 0 → ⊥) → 0 ≡ start
-    start-definition h = simp (byte-held cs bs stands 3 definition, ne-eqb k 0 h)
+    start-definition h = simp (sym definition, ne-eqb k 0 h)
 
-    module _ (long : length cs ≡ 12) (first : k ≡ 0) {x : ℕ} (digit : x ≡ byteAt cs 5) where
-      start-by : start ≡ choose (eqb x 0 && true) 1 0
+    module _ (long : length cs / 2 ≡ 6) (first : k ≡ 0) {x : ℕ} (digit : x ≡ byteAt cs 5) where
+      start-by : start ≡ choose (eqb x 0 && true) start-mark 0
       unfolding same
       start-by =
-          let six : length bs ≡ 6 = omega (arith, counted) in
+          let six : length bs ≡ 6 = omega (arith, read-length cs) in
           let path = drop-cons bs 5 0 (omega arith) in
           let ends = drop-of-length-le bs {i = 6} (omega arith) in
-          simp (byte-held cs bs stands 3 definition, eq-eqb k 0 first, path, ends, byte-held cs bs stands 5 digit)
+          simp (sym definition, eq-eqb k 0 first, path, ends, sym digit)
 
       pub start-path : (x ≡ 0 → ⊥) → 0 ≡ start
       start-path h = rw start-by (simp (ne-eqb x 0 h))
 
-      pub start-fits : x ≡ 0 → 1 ≡ start
+      pub start-fits : x ≡ 0 → start-mark ≡ start
       start-fits h = rw start-by (simp (eq-eqb x 0 h))
 
   module _ (ks xs : List ℕ) where
     -- at the path's end
-    pub found-end : (t i : ℕ) → length cs / 2 ≤ i → own-mark t ≡ find ks xs t (drop i bs)
+    pub found-end : (t i : ℕ) → length cs / 2 ≤ i → own-here t ≡ find ks xs t (drop i bs)
     unfolding find
-    found-end t i h = rw (drop-of-length-le bs {i = i} (omega (arith, counted)))
+    found-end t i h = rw (drop-of-length-le bs {i = i} (omega (arith, read-length cs)))
 
     -- one digit more, from a term with n subterms
     module _ (t i : ℕ) (more : i < length cs / 2) {x n : ℕ} (digit : x ≡ byteAt cs i)
@@ -85,7 +87,7 @@ module _ (cs bs : List ℕ) (stands : bytes cs ≡ some bs) where
           (choose (eqb x 1) (choose (eqb n 2) (find ks xs (suc t) behind) (event-end t behind))
           (choose (eqb x 2) (find ks xs (choose (eqb n 2) (look 1024 xs (suc t)) (suc t)) behind) 0))
       unfolding find
-      step = rw (drop-cons bs i 0 (omega (arith, counted)), ← count, byte-held cs bs stands i digit)
+      step = rw (drop-cons bs i 0 (omega (arith, read-length cs)), ← count, ← digit)
 
       pub found-leaf : n ≡ 0 → 0 ≡ find ks xs t (drop i bs)
       found-leaf h = rw step (simp (eq-eqb n 0 h))
@@ -111,10 +113,10 @@ module _ (cs bs : List ℕ) (stands : bytes cs ≡ some bs) where
                     → m ≡ event-end t behind
                 go true e q =
                     let l = eqb-true (i + 1) (length cs / 2) (sym q) in
-                    rw (drop-of-length-le bs {i = suc i} (omega (arith, counted, l))) e
+                    rw (drop-of-length-le bs {i = suc i} (omega (arith, read-length cs, l))) e
                 go false e q =
                     let l = eqb-false (i + 1) (length cs / 2) (sym q) in
-                    rw (drop-cons bs (suc i) 0 (omega (arith, counted, l, more))) e
+                    rw (drop-cons bs (suc i) 0 (omega (arith, read-length cs, l, more))) e
 
         module _ (other : x ≡ 1 → ⊥) where
           pub found-astray : (x ≡ 2 → ⊥) → 0 ≡ find ks xs t (drop i bs)
@@ -142,4 +144,4 @@ module _ (cs bs : List ℕ) (stands : bytes cs ≡ some bs) where
             → m ≡ find ks xs t (drop 5 bs) → m ≡ mark-of ks xs rs k (label-at bs)
         unfolding mark-of
         mark-found z {d} {t} {m} p q e =
-            rw (← number) (simp (eq-eqb i k own, ne-eqb k 0 z, byte-held cs bs stands 3 p, sym q) e)
+            rw (← number) (simp (eq-eqb i k own, ne-eqb k 0 z, sym p, sym q) e)

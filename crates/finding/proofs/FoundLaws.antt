@@ -1,7 +1,7 @@
 -- The mark at a place is that of the literal that the table has there: where the columns hold a term, following a path by
 -- the columns and following it by the term lead to one number, by induction over the term. So a node has a mark exactly
 -- where its line has its number and a place that is its. Assumes nothing.
-use Prim.Native.Nat.{ℕ, zero, suc, _+_, _*_, _≤_, _<_}
+use Prim.Native.Nat.{ℕ, zero, suc, _+_, _≤_, _<_}
 use mathlib.Core.Path.{_≡_, refl, sym, ap, ap₂, _∙_}
 use mathlib.Core.Bool.{Bool, true, false, _&&_, not}
 use mathlib.Core.List.{List, [], _∷_}
@@ -28,20 +28,22 @@ use Rattle.places.proofs.Laws.{checked-roots}
 use Rattle.rules.specs.Track.{Label}
 use Rattle.graphs.specs.Shape.{same, every, in-order, in-definition, there, literal-of, placed}
 use Rattle.graphs.proofs.Spelled.{Each, each-none, each-first}
-use Rattle.finding.specs.code.Found.{find, mark-of, marks-of}
+use Rattle.marks.specs.words.Mark.{own-mark, event-mark}
+use Rattle.marks.proofs.Laws.{own-some, event-some}
+use Rattle.finding.specs.code.Found.{start-here, find, mark-of, marks-of}
 use Rattle.finding.specs.code.Found as Found
 
 -- the mark of a literal of a definition whose root is number r, 0 where there is none
 unfoldable pub mark-of-literal : ℕ → Option Literal → ℕ
 mark-of-literal r none = 0
-mark-of-literal r (some (own n)) = 2 * (r + n) + 2
-mark-of-literal r (some (event n)) = 2 * (r + n) + 3
+mark-of-literal r (some (own n)) = own-mark (r + n)
+mark-of-literal r (some (event n)) = event-mark (r + n)
 
 mark-shifted : (i k : ℕ) (o : Option Literal) → mark-of-literal (i + k) o ≡ mark-of-literal i (shifted k o)
 unfolding mark-of-literal shifted
 mark-shifted i k none = refl
-mark-shifted i k (some (own n)) = omega arith
-mark-shifted i k (some (event n)) = omega arith
+mark-shifted i k (some (own n)) = ap own-mark (omega arith)
+mark-shifted i k (some (event n)) = ap event-mark (omega arith)
 
 mark-chosen : (i : ℕ) (b : Bool) (o p : Option Literal)
     → mark-of-literal i (choose b o p) ≡ choose b (mark-of-literal i o) (mark-of-literal i p)
@@ -51,7 +53,7 @@ mark-chosen i false o p = refl
 -- the mark of an event that a path ends at
 mark-ended : (i : ℕ) (w : List ℕ) → Found.event-end i w ≡ mark-of-literal i (event-end w)
 unfolding mark-of-literal event-end Found.event-end
-mark-ended i [] = omega arith
+mark-ended i [] = ap event-mark (omega arith)
 mark-ended i (x ∷ w) = refl
 
 -- a step along a path, by how many subterms the term has
@@ -74,7 +76,7 @@ module _ (ks xs : List ℕ) (i x : ℕ) (w : List ℕ) where
 
 find-here : (ks xs : List ℕ) (i : ℕ) → i < term-room → find ks xs i [] ≡ mark-of-literal i (some (own 0))
 unfolding find mark-of-literal
-find-here ks xs i h = rw (lt-ltb i term-room h) (omega arith)
+find-here ks xs i h = rw (lt-ltb i term-room h) (ap own-mark (omega arith))
 
 prefix-subterms : subterms Kind.prefix ≡ 1
 unfolding subterms
@@ -151,8 +153,8 @@ DefinitionsBelow d ls = Each (λ (l : Label). l .place .definition < d) ls
 mark-there : (ts : List Term) (r : ℕ) (o : Option Literal) → not (eqb (mark-of-literal r o) 0) ≡ there ts o
 unfolding mark-of-literal there
 mark-there ts r none = refl
-mark-there ts r (some (own n)) = rw (ne-eqb (2 * (r + n) + 2) 0 (λ e. omega arith))
-mark-there ts r (some (event n)) = rw (ne-eqb (2 * (r + n) + 3) 0 (λ e. omega arith))
+mark-there ts r (some (own n)) = rw (ne-eqb (own-mark (r + n)) 0 (own-some (r + n)))
+mark-there ts r (some (event n)) = rw (ne-eqb (event-mark (r + n)) 0 (event-some (r + n)))
 
 -- a checked table
 module _ (text : List ℕ) (s : Sofar) (q : judged text ≡ accepted s) where
@@ -197,7 +199,7 @@ module _ (text : List ℕ) (s : Sofar) (q : judged text ≡ accepted s) where
 
       go : (b : Bool) → eqb (l .reference) k ≡ b
           → not (eqb (choose b
-          (choose (eqb k 0) (choose (eqb (l .place .definition) 0 && same (l .place .path) left-path) 1 0)
+          (choose (eqb k 0) (start-here (l .place))
           (find (kinds s) (afters s) (look definition-room (roots s) (l .place .definition)) (l .place .path)))
           0) 0)
           ≡ b && choose (eqb (l .reference) 0) (eqb (l .place .definition) 0 && same (l .place .path) left-path)

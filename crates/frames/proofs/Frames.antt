@@ -1,18 +1,16 @@
--- What frame a line's characters stand for: its bytes have a tag, the tag has a shape, and the shape has a
--- count of bytes, which fits or does not. Assumes nothing.
+-- What frame characters stand for: their bytes have a tag, the tag has a shape, and the shape has a count of
+-- bytes, which fits or does not. Assumes nothing.
 use Prim.Native.Nat.{ℕ, _≤_, _<_, _-_, _+_, _*_, _/_}
-use mathlib.Core.Path.{_≡_, sym, _∙_}
+use mathlib.Core.Path.{_≡_, sym, ap, _∙_}
 use mathlib.Core.List.{List}
-use mathlib.Core.Option.{some}
 use native.Mathlib.Omega.{arith}
 use lib.ListN.{length, take, drop, getD, length-drop}
 use lib.Dec.{eqb}
 use lib.Seq.{take-all}
 use borrow.Author.Tests.{le-leb, lt-leb, eq-eqb, ne-eqb}
-use Rattle.lines.specs.Line.{choose, number, bytes}
-use Rattle.numbers.specs.code.Numbers.{byteAt, numberOf}
-use Rattle.lines.proofs.Laws.{bytes-length}
-use Rattle.numbers.proofs.Laws.{bytes-drop, byte-is, number-is}
+use Rattle.lines.specs.Line.{choose, number}
+use Rattle.numbers.specs.code.Numbers.{read-bytes, byteAt, numberOf}
+use Rattle.numbers.proofs.Laws.{read-length, read-drop, number-read}
 use Rattle.kinds.specs.Kind.{known, payload-bytes}
 use Rattle.frames.specs.TableFrame.{frame-of}
 use Rattle.frames.specs.declared.Frame.{Frame}
@@ -58,27 +56,21 @@ module _ (bs : List ℕ) where
   unfolding frame-of
   no-tag {t} e p q r s = simp (sym e, ne-eqb t 0x12 p, ne-eqb t 0x11 q, ne-eqb t 0x1f r, ne-eqb t 0x10 s)
 
--- the characters of a line, and its bytes
-module _ (cs bs : List ℕ) (stands : bytes cs ≡ some bs) where
-  counted : length bs ≡ length cs / 2
-  counted = omega (arith, bytes-length cs bs stands)
+-- the bytes of characters
+module _ (cs : List ℕ) where
+  abbrev bs : List ℕ
+  bs = read-bytes cs
 
-  pub fits : {t n : ℕ} {f : Frame} → Shape bs t n f → getD bs 0 0 ≡ t → length cs / 2 ≡ n → f ≡ frame-of bs
-  fits {t} {n} {f} s tag h = rw (eq-eqb (length bs) n (counted ∙ h)) at (s .by-count tag)
+  pub fits : {t n : ℕ} {f : Frame} → Shape bs t n f → byteAt cs 0 ≡ t → length cs / 2 ≡ n → f ≡ frame-of bs
+  fits {t} {n} {f} s tag h = rw (eq-eqb (length bs) n (read-length cs ∙ h)) at (s .by-count tag)
 
-  pub misfits : {t n : ℕ} {f : Frame} → Shape bs t n f → getD bs 0 0 ≡ t → (length cs / 2 ≡ n → ⊥)
+  pub misfits : {t n : ℕ} {f : Frame} → Shape bs t n f → byteAt cs 0 ≡ t → (length cs / 2 ≡ n → ⊥)
       → Wrong ≡ frame-of bs
-  misfits {t} {n} {f} s tag h = rw (ne-eqb (length bs) n (λ q. h (sym counted ∙ q))) at (s .by-count tag)
+  misfits {t} {n} {f} s tag h = rw (ne-eqb (length bs) n (λ q. h (sym (read-length cs) ∙ q))) at (s .by-count tag)
 
-  pub byte-read : (k : ℕ) {b : ℕ} → b ≡ byteAt cs k → b ≡ getD bs k 0
-  byte-read k e = e ∙ byte-is cs bs k stands
-
-  pub tagged : {b t : ℕ} → b ≡ byteAt cs 0 → b ≡ t → getD bs 0 0 ≡ t
-  tagged e h = sym (byte-read 0 e) ∙ h
-
-  pub number-read : (k : ℕ) {n : ℕ} → length cs / 2 - k ≤ 8
-      → n ≡ numberOf 0 (take (length cs - 2 * k) (drop (2 * k) cs)) → n ≡ number (drop k bs)
-  number-read k h e =
+  pub number-behind : (k : ℕ) {n : ℕ} → n ≡ numberOf 0 (take (length cs - 2 * k) (drop (2 * k) cs))
+      → length cs / 2 - k ≤ 8 → n ≡ number (drop k bs)
+  number-behind k e h =
       let whole = take-all (length cs - 2 * k) (drop (2 * k) cs) (omega (arith, length-drop (2 * k) cs)) in
-      let eight : length (drop k bs) ≤ 8 = omega (arith, counted, length-drop k bs) in
-      e ∙ rw whole (number-is (drop (2 * k) cs) (drop k bs) (bytes-drop cs bs k stands) eight)
+      let eight : length (drop (2 * k) cs) / 2 ≤ 8 = omega (arith, length-drop (2 * k) cs) in
+      e ∙ rw whole (number-read (drop (2 * k) cs) eight ∙ ap number (read-drop cs k))

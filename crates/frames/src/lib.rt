@@ -4,11 +4,7 @@ use numbers::byte;
 use numbers::number;
 ghost use mathlib.Core.Path.{_≡_};
 ghost use Rattle.frames.specs.TableFrame as table;
-ghost use mathlib.Core.List.{List};
-ghost use mathlib.Core.Option.{some};
-ghost use Prim.Native.Nat.{ℕ};
-ghost use lib.ListN.{getD};
-ghost use Rattle.lines.specs.Line.{bytes};
+ghost use Rattle.numbers.specs.code.Numbers.{read-bytes, byteAt};
 ghost use Rattle.frames.specs.TableFrame.{frame-of};
 
 // First bytes of a table's frames.
@@ -64,9 +60,9 @@ pub struct Seen {
     pub depth: usize,
 }
 
-// The frame that a line's characters stand for.
+// The frame that the bytes of characters are.
 pub fn read_frame(chars: &[u8]) -> Frame
-    ensures { λ r. ⌜ ((bs : List ℕ) → bytes (now (chars .entry)) ≡ some bs → r ≡ frame-of bs) ⌝ }
+    ensures { λ r. ⌜ r ≡ frame-of (read-bytes (now (chars .entry))) ⌝ }
 {
     let count = chars.len() / 2;
     let tag = byte(chars, 0);
@@ -100,8 +96,8 @@ pub fn read_frame(chars: &[u8]) -> Frame
 
 // The frame of a line whose first byte is a term's.
 fn read_term(chars: &[u8]) -> Frame
-    ensures { λ r. ⌜ ((bs : List ℕ) → bytes (now (chars .entry)) ≡ some bs → getD bs 0 0 ≡ 0x12
-        → r ≡ frame-of bs) ⌝ }
+    requires { ⌜ byteAt (now chars) 0 ≡ 0x12 ⌝ }
+    ensures { λ r. ⌜ r ≡ frame-of (read-bytes (now (chars .entry))) ⌝ }
 {
     let count = chars.len() / 2;
     let kind = byte(chars, 1);

@@ -2,12 +2,12 @@
 -- bytes are read as that frame; and bytes that are not wrong are those of the frame that is read from them,
 -- since they are cut into its numbers from the first byte to the last. Assumes nothing.
 use Prim.Native.Nat.{ℕ, zero, suc, _+_, _*_, _/_, _%_, _≤_, _<_}
-use mathlib.Core.Path.{_≡_, refl, ap, _∙_}
+use mathlib.Core.Path.{_≡_, refl, ap}
 use mathlib.Core.Bool.{Bool, true, false}
 use mathlib.Core.List.{List, [], _∷_, _++_}
 use native.Mathlib.Omega.{arith}
-use lib.ListN.{length, getD, take, drop, length-drop, drop-of-length-le}
-use lib.Seq.{drop-cons, drop-drop}
+use lib.ListN.{length, getD, drop, length-drop, drop-of-length-le}
+use lib.Seq.{drop-cons}
 use lib.Dec.{eqb}
 use borrow.Author.Tests.{eqb-true, eq-eqb}
 use Rattle.lines.specs.Line.{choose, number, number-from, two, Bytes, no-bytes, byte-first, Frames}
@@ -24,39 +24,37 @@ number-two : (n : ℕ) → n < 65536 → number (two n) ≡ n
 unfolding two number-from
 number-two n h = omega arith
 
--- and two bytes from their number, where they stand first
-two-number : {bs : List ℕ} → Bytes bs → 2 ≤ length bs → bs ≡ two (number (take 2 bs)) ++ drop 2 bs
-unfolding two number-from
-two-number no-bytes l = absurd (omega arith)
-two-number (byte-first h no-bytes) l = absurd (omega arith)
-two-number (byte-first {b = b} h (byte-first {b = c} i t)) l =
-    let u : ((0 * 256 + b) * 256 + c) / 256 % 256 ≡ b = omega arith in
-    let v : ((0 * 256 + b) * 256 + c) % 256 ≡ c = omega arith in
-    cc
-
--- which is below 65536
-number-below : {bs : List ℕ} → Bytes bs → number (take 2 bs) < 65536
-unfolding number-from
-number-below no-bytes = omega arith
-number-below (byte-first h no-bytes) = omega arith
-number-below (byte-first h (byte-first i t)) = omega arith
-
--- what stands behind some bytes, and each byte
-bytes-drop : (k : ℕ) {bs : List ℕ} → Bytes bs → Bytes (drop k bs)
-bytes-drop zero h = h
-bytes-drop (suc k) no-bytes = no-bytes
-bytes-drop (suc k) (byte-first h t) = bytes-drop k t
-
+-- each byte
 byte-at : (k : ℕ) {bs : List ℕ} → Bytes bs → getD bs k 0 < 256
 byte-at k no-bytes = omega arith
 byte-at zero (byte-first h t) = h
 byte-at (suc k) (byte-first h t) = byte-at k t
 
--- two bytes from any byte on are their number's
+-- what stands behind some bytes
+bytes-drop : (k : ℕ) {bs : List ℕ} → Bytes bs → Bytes (drop k bs)
+bytes-drop zero h = h
+bytes-drop (suc k) no-bytes = no-bytes
+bytes-drop (suc k) (byte-first h t) = bytes-drop k t
+
+-- the number of two bytes is below 65536
+number-below : (k : ℕ) {bs : List ℕ} → Bytes bs → number-at k bs < 65536
+unfolding number-from
+number-below k h = omega (arith, byte-at k h, byte-at (k + 1) h)
+
+-- and they are its two bytes
 two-at : (k : ℕ) {bs : List ℕ} → Bytes bs → k + 2 ≤ length bs
     → drop k bs ≡ two (number-at k bs) ++ drop (k + 2) bs
+unfolding two number-from
 two-at k {bs} h l =
-    two-number (bytes-drop k h) (rw length-drop (omega arith)) ∙ rw (drop-drop 2 k bs)
+    let b = getD bs k 0 in
+    let c = getD bs (k + 1) 0 in
+    let n : k + 1 ≡ suc k = omega arith in
+    let m : k + 2 ≡ suc (suc k) = omega arith in
+    let x = drop-cons bs k 0 (omega arith) in
+    let y = drop-cons bs (suc k) 0 (omega arith) in
+    let u : ((0 * 256 + b) * 256 + c) / 256 % 256 ≡ b = omega (arith, byte-at k h, byte-at (k + 1) h) in
+    let v : ((0 * 256 + b) * 256 + c) % 256 ≡ c = omega (arith, byte-at (k + 1) h) in
+    rw (u, v, m, n, x, y)
 
 -- a number's two bytes are bytes
 two-bytes : (n : ℕ) {bs : List ℕ} → Bytes bs → Bytes (two n ++ bs)
@@ -132,7 +130,7 @@ settled-by true h k w = h refl
 settled-by false h k w = k w
 
 -- what `formed` tests
-formed-parts : (b n : ℕ) (bs : List ℕ) → formed b n bs ≡ true → (getD bs 0 0 ≡ b) × (length bs ≡ n)
+pub formed-parts : (b n : ℕ) (bs : List ℕ) → formed b n bs ≡ true → (getD bs 0 0 ≡ b) × (length bs ≡ n)
 formed-parts b n bs e =
     let i = both (eqb (getD bs 0 0) b) (eqb (length bs) n) e in
     (eqb-true (getD bs 0 0) b (i .0), eqb-true (length bs) n (i .1))
@@ -149,7 +147,7 @@ pair-spelt c {bs} h e =
     cc
 
 pair-short : {bs : List ℕ} → Bytes bs → Short (pair-at bs)
-pair-short h = record { from-short = number-below (bytes-drop 1 h); to-short = number-below (bytes-drop 3 h) }
+pair-short h = record { from-short = number-below 1 h; to-short = number-below 3 h }
 
 module _ {bs : List ℕ} (h : Bytes bs) where
   node-exact : formed 0x31 (5 + getD bs 4 0) bs ≡ true → Exact bs (node (number-at 1 bs) (place-at bs))
@@ -162,7 +160,7 @@ module _ {bs : List ℕ} (h : Bytes bs) where
       let z = drop-cons bs 3 0 (omega arith) in
       let l = drop-cons bs 4 0 (omega arith) in
       record {
-        sized = sized-node {w = place-at bs} (number-below (bytes-drop 1 h))
+        sized = sized-node {w = place-at bs} (number-below 1 h)
             (rw path-size (rw (z, l) at (bytes-drop 3 h)));
         same = cc;
       }
@@ -179,8 +177,8 @@ module _ {bs : List ℕ} (h : Bytes bs) where
       let s = two-at 6 h (omega arith) in
       let none-left = drop-of-length-le bs {i = 8} (omega arith) in
       record {
-        sized = sized-opening (byte-at 1 h) (number-below (bytes-drop 2 h)) (number-below (bytes-drop 4 h))
-            (number-below (bytes-drop 6 h));
+        sized = sized-opening (byte-at 1 h) (number-below 2 h) (number-below 4 h)
+            (number-below 6 h);
         same = cc;
       }
 

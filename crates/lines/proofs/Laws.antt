@@ -9,7 +9,7 @@ use mathlib.Core.Option.{Option, none, some}
 use mathlib.Core.Logic.{_⊎_, ⊎-elim}
 use denote.Enum.Declared.{tagOf, declared}
 use native.Mathlib.Omega.{arith}
-use lib.ListN.{length, take, drop, getD, length-append, length-drop, drop-of-length-le}
+use lib.ListN.{length, take, drop, getD, length-append, length-take, length-drop, drop-of-length-le}
 use lib.Dec.{eqb}
 use lib.Seq.{drop-cons, drop-append-seam, drop-append-add, take-append-seam, drop-drop, drop-length, take-nil}
 use borrow.Author.Tests.{le-leb, lt-leb, eqb-true, ne-eqb}
@@ -263,6 +263,12 @@ module _ (s : List ℕ) (a e : ℕ) where
   part-past h k =
       rw (drop-length s, take-nil {A = ℕ} (length s - length s))
       (simp (le-leb a e h, lt-leb e (length s) k))
+
+-- where the line behind a found line begins
+pub past : (s : List ℕ) (at e n : ℕ) → IsLine s at e n → at + length (part s at e) + 1 ≡ n
+past s at e n i =
+    let c = ap length (part-some s at e (omega arith) (omega arith)) in
+    omega (arith, length-take (e - at) (drop at s), length-drop at s)
 
 -- a line's characters are two for each byte
 pub bytes-length : (cs bs : List ℕ) → bytes cs ≡ some bs → length cs ≡ 2 * length bs

@@ -4,7 +4,7 @@ use Prim.Native.Nat.{ℕ, _+_, _-_, _*_, _/_, _%_, _<_}
 use mathlib.Core.Bool.{Bool, true, false, _&&_}
 use mathlib.Core.List.{List, [], _∷_, _++_}
 use mathlib.Core.Option.{Option, none, some}
-use lib.ListN.{length, take, drop}
+use lib.ListN.{length, getD}
 use lib.Dec.{leb, ltb, eqb}
 use Rattle.lines.specs.declared.Line.{Line}
 use Rattle.lines.specs.declared.Line.the-variants.{Found, NoLine, End}
@@ -69,9 +69,9 @@ number-from n (b ∷ bs) = number-from (n * 256 + b) bs
 abbrev pub number : List ℕ → ℕ
 number bs = number-from 0 bs
 
--- the number of two bytes from byte k on
+-- the number of two bytes from byte k on; a byte that there is not counts as 0
 abbrev pub number-at : ℕ → List ℕ → ℕ
-number-at k bs = number (take 2 (drop k bs))
+number-at k bs = number (getD bs k 0 ∷ getD bs (k + 1) 0 ∷ [])
 
 -- a number as two bytes
 unfoldable pub two : ℕ → List ℕ

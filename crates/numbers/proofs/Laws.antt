@@ -1,30 +1,58 @@
--- What a caller may rely on: bytes and numbers are read off a line's characters as `bytes` and `number` have them.
+-- What a caller may rely on: the bytes that characters stand for, two by two, are as many as there are pairs, each is the one
+-- that is read, and up to eight of them make the number that is read. Of a line's characters they are its bytes.
 -- Assumes nothing.
 use Prim.Native.Nat.{ℕ, suc, _+_, _*_, _/_, _≤_, _<_, zero, _-_, _%_}
-use mathlib.Core.Path.{_≡_, refl, sym, _∙_, ap}
-use mathlib.Core.Bool.{Bool, true, false}
+use mathlib.Core.Path.{_≡_, refl, sym, ap}
 use mathlib.Core.List.{List, [], _∷_}
 use mathlib.Core.Option.{some}
 use native.Mathlib.Omega.{arith}
-use lib.ListN.{length, drop, getD, length-drop, take}
-use lib.Dec.{leb}
+use lib.ListN.{length, take, drop, getD, length-drop, List·getD-eq-default}
 use lib.Seq.{drop-cons}
-use borrow.Author.Tests.{lt-ltb, le-leb, lt-leb, leb-true, leb-false}
-use Rattle.lines.specs.Line.{choose, number-from, bytes, number-at, digit, pair}
-use Rattle.numbers.specs.code.Numbers.{byteAt, byteOf, numberOf}
-use native.Mathlib.Nat.{zero-add, suc-add}
+use Rattle.lines.specs.Line.{number, number-from, bytes, digit}
 use Rattle.lines.proofs.Digits.{pair-some}
+use Rattle.numbers.specs.code.Numbers.{read-bytes, byteAt, byteOf, numberOf}
+use native.Mathlib.Nat.{zero-add, suc-add}
 use Rattle.numbers.proofs.Digits.{value-digit}
 
--- byte number k, where the characters have it and where they do not
-module _ (cs : List ℕ) (k : ℕ) where
-  pub byte-some : k < length cs / 2 → byteOf (getD cs (2 * k) 0) (getD cs (2 * k + 1) 0) ≡ byteAt cs k
-  unfolding byteAt
-  byte-some h = simp (lt-leb (length cs / 2) k h)
+-- a byte for every two characters
+pub read-length : (cs : List ℕ) → length (read-bytes cs) ≡ length cs / 2
+unfolding read-bytes
+read-length [] = refl
+read-length (h ∷ []) = refl
+read-length (h ∷ l ∷ cs) = let n = read-length cs in omega arith
 
-  pub byte-none : length cs / 2 ≤ k → 0 ≡ byteAt cs k
-  unfolding byteAt
-  byte-none h = simp (le-leb (length cs / 2) k h)
+-- the first k bytes are those of the first 2 k characters, and the bytes from number k on those of the rest
+read-split : (cs : List ℕ) (k : ℕ)
+    → (read-bytes (take (2 * k) cs) ≡ take k (read-bytes cs)) × (read-bytes (drop (2 * k) cs) ≡ drop k (read-bytes cs))
+unfolding read-bytes
+read-split cs zero = (refl, refl)
+read-split [] (suc k) = let m : 2 * suc k ≡ suc (suc (2 * k)) = omega arith in rw m (refl, refl)
+read-split (h ∷ []) (suc k) = let m : 2 * suc k ≡ suc (suc (2 * k)) = omega arith in rw m (refl, refl)
+read-split (h ∷ l ∷ cs) (suc k) =
+    let m : 2 * suc k ≡ suc (suc (2 * k)) = omega arith in
+    let s = read-split cs k in
+    rw m (ap (λ (bs : List ℕ). byteOf h l ∷ bs) (s .0), s .1)
+
+pub read-take : (cs : List ℕ) (k : ℕ) → read-bytes (take (2 * k) cs) ≡ take k (read-bytes cs)
+read-take cs k = read-split cs k .0
+
+pub read-drop : (cs : List ℕ) (k : ℕ) → read-bytes (drop (2 * k) cs) ≡ drop k (read-bytes cs)
+read-drop cs k = read-split cs k .1
+
+-- byte number k, where the characters have it and where they do not
+pub byte-some : (cs : List ℕ) (k : ℕ) → k < length cs / 2
+    → byteOf (getD cs (2 * k) 0) (getD cs (2 * k + 1) 0) ≡ byteAt cs k
+unfolding read-bytes
+byte-some [] k h = absurd (omega arith)
+byte-some (a ∷ []) k h = absurd (omega arith)
+byte-some (a ∷ b ∷ cs) zero h = refl
+byte-some (a ∷ b ∷ cs) (suc k) h =
+    let m : 2 * suc k ≡ suc (suc (2 * k)) = omega arith in
+    let n : 2 * suc k + 1 ≡ suc (suc (2 * k + 1)) = omega arith in
+    rw (n, m) (byte-some cs k (omega arith))
+
+pub byte-none : (cs : List ℕ) (k : ℕ) → length cs / 2 ≤ k → 0 ≡ byteAt cs k
+byte-none cs k h = sym (List·getD-eq-default (read-bytes cs) 0 (omega (arith, read-length cs)))
 
 -- the number of the characters from 2 k on takes in one byte more
 pub number-more : (cs : List ℕ) (k n : ℕ) → k < length cs / 2
@@ -47,60 +75,6 @@ number-end cs k n h = go (drop (2 * k) cs) (omega (arith, length-drop (2 * k) cs
     go (x ∷ []) q = refl
     go (x ∷ y ∷ l) q = absurd (omega arith)
 
--- two digits are the byte that they stand for
-byte-digits : (h l : ℕ) → digit h < 16 → digit l < 16 → byteOf h l ≡ digit h * 16 + digit l
-byte-digits h l p q = rw (value-digit h p, value-digit l q) (omega arith)
-
--- byte number k of a line is what `byte` reads
-byte-later : (h l : ℕ) (cs : List ℕ) (k : ℕ) → byteAt (h ∷ l ∷ cs) (suc k) ≡ byteAt cs k
-unfolding byteAt
-byte-later h l cs k =
-    let n : 2 * suc k ≡ suc (suc (2 * k)) = omega arith in
-    let m : 2 * suc k + 1 ≡ suc (suc (2 * k + 1)) = omega arith in
-    let byte = byteOf (getD cs (2 * k) 0) (getD cs (2 * k + 1) 0) in
-    rw (m, n) (ap (λ (b : Bool). choose b 0 byte) (go (leb (length cs / 2) k) refl))
-  where
-    go : (b : Bool) → leb (length cs / 2) k ≡ b → leb (suc (suc (length cs)) / 2) (suc k) ≡ b
-    go true e =
-        let q = leb-true (length cs / 2) k e in
-        le-leb (suc (suc (length cs)) / 2) (suc k) (omega arith)
-    go false e =
-        let q = leb-false (length cs / 2) k e in
-        lt-leb (suc (suc (length cs)) / 2) (suc k) (omega arith)
-
-pub byte-is : (cs bs : List ℕ) (k : ℕ) → bytes cs ≡ some bs → byteAt cs k ≡ getD bs k 0
-unfolding bytes byteAt
-byte-is [] bs k e = let n : bs ≡ [] = cc in rw n (simp (le-leb 0 k (omega arith)))
-byte-is (h ∷ []) bs k e = let z : _≡_ {A = ℕ} 0 1 = cc in absurd (omega arith)
-byte-is (h ∷ l ∷ cs) bs zero e =
-    let r = pair-some (digit h) (digit l) (bytes cs) bs e in
-    rw (r .2 .2) (simp (lt-leb (suc (suc (length cs)) / 2) 0 (omega arith)) (byte-digits h l (r .0) (r .1)))
-byte-is (h ∷ l ∷ cs) bs (suc k) e =
-    let r = pair-some (digit h) (digit l) (bytes cs) bs e in
-    byte-later h l cs k ∙ rw (r .2 .2) (byte-is cs (r .2 .0) k (r .2 .1))
-
--- the first k bytes are those of the first 2 k characters, and the bytes from number k on those of the rest
-bytes-split : (cs bs : List ℕ) (k : ℕ) → bytes cs ≡ some bs
-    → (bytes (take (2 * k) cs) ≡ some (take k bs)) × (bytes (drop (2 * k) cs) ≡ some (drop k bs))
-unfolding bytes pair
-bytes-split cs bs zero e = (refl, e)
-bytes-split [] bs (suc k) e =
-    let n : bs ≡ [] = cc in
-    let m : 2 * suc k ≡ suc (suc (2 * k)) = omega arith in
-    rw (m, n) (refl, refl)
-bytes-split (h ∷ []) bs (suc k) e = let z : _≡_ {A = ℕ} 0 1 = cc in absurd (omega arith)
-bytes-split (h ∷ l ∷ cs) bs (suc k) e =
-    let r = pair-some (digit h) (digit l) (bytes cs) bs e in
-    let m : 2 * suc k ≡ suc (suc (2 * k)) = omega arith in
-    let s = bytes-split cs (r .2 .0) k (r .2 .1) in
-    rw (m, r .2 .2) (simp (s .0, lt-ltb (digit h) 16 (r .0), lt-ltb (digit l) 16 (r .1)), s .1)
-
-pub bytes-take : (cs bs : List ℕ) (k : ℕ) → bytes cs ≡ some bs → bytes (take (2 * k) cs) ≡ some (take k bs)
-bytes-take cs bs k e = bytes-split cs bs k e .0
-
-pub bytes-drop : (cs bs : List ℕ) (k : ℕ) → bytes cs ≡ some bs → bytes (drop (2 * k) cs) ≡ some (drop k bs)
-bytes-drop cs bs k e = bytes-split cs bs k e .1
-
 -- the largest number that k more bytes can make of n
 most : ℕ → ℕ → ℕ
 most n zero = n
@@ -121,42 +95,36 @@ unfolding most
 most-longer zero d n = simp zero-add (most-above d n)
 most-longer (suc k) d n = simp suc-add (most-longer k d (n * 256 + 255))
 
--- a number of up to eight bytes is what `number` reads
-number-fits : (cs bs : List ℕ) (n : ℕ) → bytes cs ≡ some bs → most n (length bs) < 18446744073709551616
-    → numberOf n cs ≡ number-from n bs
-unfolding bytes numberOf number-from most
-number-fits [] bs n e h = let q : bs ≡ [] = cc in rw q
-number-fits (a ∷ []) bs n e h = let z : _≡_ {A = ℕ} 0 1 = cc in absurd (omega arith)
-number-fits (a ∷ b ∷ cs) bs n e h =
-    let r = pair-some (digit a) (digit b) (bytes cs) bs e in
-    let left = length (r .2 .0) in
-    let next = n * 256 + (digit a * 16 + digit b) in
-    let fits : most (n * 256 + 255) left < 18446744073709551616 = rw (r .2 .2) at h in
+-- a number of up to eight bytes is theirs
+number-fits : (cs : List ℕ) (n : ℕ) → most n (length (read-bytes cs)) < 18446744073709551616
+    → numberOf n cs ≡ number-from n (read-bytes cs)
+unfolding read-bytes numberOf number-from most
+number-fits [] n h = refl
+number-fits (a ∷ []) n h = refl
+number-fits (a ∷ b ∷ cs) n h =
+    let left = length (read-bytes cs) in
+    let next = n * 256 + byteOf a b in
     let above : n * 256 + 255 ≤ most (n * 256 + 255) left = most-above left (n * 256 + 255) in
-    let read : n % 72057594037927936 * 256 + byteOf a b ≡ next =
-    rw (byte-digits a b (r .0) (r .1)) (omega arith) in
+    let read : n % 72057594037927936 * 256 + byteOf a b ≡ next = omega arith in
     let below : most next left ≤ most (n * 256 + 255) left = most-mono left (omega arith) in
-    rw (r .2 .2, read) (number-fits cs (r .2 .0) next (r .2 .1) (omega arith))
+    rw read (number-fits cs next (omega arith))
 
-pub number-is : (cs bs : List ℕ) → bytes cs ≡ some bs → length bs ≤ 8 → numberOf 0 cs ≡ number-from 0 bs
+pub number-read : (cs : List ℕ) → length cs / 2 ≤ 8 → numberOf 0 cs ≡ number (read-bytes cs)
 unfolding most
-number-is cs bs e h =
-    let d : length bs + (8 - length bs) ≡ 8 = omega arith in
-    let m : most 0 (length bs) ≤ most 0 8 = rw d at (most-longer (length bs) (8 - length bs) 0) in
-    number-fits cs bs 0 e (omega arith)
+number-read cs h =
+    let n = length (read-bytes cs) in
+    let d : n + (8 - n) ≡ 8 = omega (arith, read-length cs) in
+    let m : most 0 n ≤ most 0 8 = rw d at (most-longer n (8 - n) 0) in
+    number-fits cs 0 (omega arith)
 
--- two bytes from byte k on
-two-at : (bs : List ℕ) (k : ℕ) → k + 2 ≤ length bs → number-at k bs ≡ getD bs k 0 * 256 + getD bs (k + 1) 0
-unfolding number-from
-two-at bs k h =
-    let s : k + 1 ≡ suc k = omega arith in
-    rw (s, drop-cons bs k 0 (omega arith), drop-cons bs (suc k) 0 (omega arith)) (omega arith)
+-- the bytes of a line's characters are those that are read, where two digits are the byte that they stand for
+byte-digits : (h l : ℕ) → digit h < 16 → digit l < 16 → byteOf h l ≡ digit h * 16 + digit l
+byte-digits h l p q = rw (value-digit h p, value-digit l q) (omega arith)
 
--- the characters of a line, and its bytes: a byte that is read, and a number of two bytes
-module _ (cs bs : List ℕ) (stands : bytes cs ≡ some bs) where
-  pub byte-held : (k : ℕ) {b : ℕ} → b ≡ byteAt cs k → getD bs k 0 ≡ b
-  byte-held k e = sym (e ∙ byte-is cs bs k stands)
-
-  pub number-read : (k : ℕ) {a b : ℕ} → a ≡ byteAt cs k → b ≡ byteAt cs (k + 1) → k + 2 ≤ length bs
-      → a * 256 + b ≡ number-at k bs
-  number-read k p q h = rw (two-at bs k h, byte-held k p, byte-held (k + 1) q)
+pub bytes-read : (cs bs : List ℕ) → bytes cs ≡ some bs → read-bytes cs ≡ bs
+unfolding bytes read-bytes
+bytes-read [] bs e = cc
+bytes-read (h ∷ []) bs e = let z : _≡_ {A = ℕ} 0 1 = cc in absurd (omega arith)
+bytes-read (h ∷ l ∷ cs) bs e =
+    let r = pair-some (digit h) (digit l) (bytes cs) bs e in
+    rw (r .2 .2, byte-digits h l (r .0) (r .1), bytes-read cs (r .2 .0) (r .2 .1))

@@ -1,17 +1,13 @@
-// What a line's characters stand for: a byte, a number of two bytes, or the number of all of them. It relies on nothing; the
-// characters are those of a line that `lines` has found.
+// What characters stand for, two by two: a byte, a number of two bytes, or the number of all of them. It relies on nothing, and
+// asks nothing of the characters; where they are a line's, their bytes are the line's.
 ghost use mathlib.Core.Path.{_≡_};
-ghost use Prim.Native.Nat.{_+_, _≤_, ℕ, _<_};
-ghost use lib.ListN.{length};
-ghost use Rattle.numbers.specs.code.Numbers.{value, byteOf, byteAt, numberOf};
-ghost use mathlib.Core.List.{List};
-ghost use mathlib.Core.Option.{some};
-ghost use Rattle.lines.specs.Line.{bytes};
+ghost use Prim.Native.Nat.{_≤_, _<_};
+ghost use Rattle.numbers.specs.code.Numbers.{value, byteOf, read-bytes, byteAt, numberOf};
 ghost use Rattle.lines.specs.Line.{number-at};
 
 const LOW_56_BITS: u64 = 72057594037927936;
 
-// Byte number k of a line's characters, 0 where they have no such byte.
+// Byte number k of the characters, 0 where they have no such byte.
 pub fn byte(chars: &[u8], k: usize) -> u8
     ensures { λ r. ⌜ r ≡ byteAt (now (chars .entry)) k ⌝ }
 {
@@ -49,11 +45,10 @@ fn value_of(c: u8) -> u8
     c % 16 + c / 64 * 9
 }
 
-// The number of two bytes from byte k on.
+// The number of two bytes from byte k on; a byte that there is not counts as 0.
 pub fn number_at(chars: &[u8], k: usize) -> usize
     requires { ⌜ k ≤ 6 ⌝ }
-    ensures { λ r. ⌜ ((bs : List ℕ) → bytes (now (chars .entry)) ≡ some bs → k + 2 ≤ length bs
-        → r ≡ number-at k bs) ⌝ }
+    ensures { λ r. ⌜ r ≡ number-at k (read-bytes (now (chars .entry))) ⌝ }
     ensures { λ r. ⌜ r < 65536 ⌝ }
 {
     byte_at(chars, k) * 256 + byte_at(chars, k + 1)

@@ -10,20 +10,24 @@ use lib.Seq.{sets}
 use Rattle.lines.specs.Line.{lines}
 use Rattle.rules.specs.Track.{Label, Pair}
 use Rattle.rules.specs.Run.{node-room, arc-room, meeting-room}
-use Rattle.control.specs.words.Words.{track-words}
+use Rattle.control.specs.words.Words.{track-words, meetings-from, reference-room}
 use Rattle.graphs.specs.Graph.{Graph}
 use Rattle.graphs.specs.Parsed.{Due, a-node, an-arc, a-meeting, the-last, dues, nothing, says, refused}
 use Rattle.graphs.specs.Parsed.{Parsed, rest, parsed}
 use Rattle.links.specs.words.Columns.{flat}
 use Rattle.finding.specs.code.Found.{marks-of}
-use Rattle.parsing.specs.code.Phases.{opened, Told, nodes-read, pairs-read, last-read}
-use Rattle.parsing.specs.declared.TrackOpened.{TrackOpened}
-use Rattle.parsing.specs.declared.TrackOpened.the-variants.{Track, Fails}
-use Rattle.parsing.specs.declared.Lines.{Lines}
-use Rattle.parsing.specs.declared.Lines.the-variants.{Goes, Stops}
-use Rattle.parsing.proofs.Dues.{due-of, with-pairs}
-use Rattle.parsing.proofs.Work.{onward, goes-on, stops-there, begun, first-leads, Fits, opened-fits, all-said}
-use Rattle.parsing.proofs.Work.{labelled, nodes-lead, pairs-lead, last-leads}
+use Rattle.opening.specs.code.Phases.{Told}
+use Rattle.opening.specs.code.Ends.{opened, last-read}
+use Rattle.opening.specs.declared.TrackOpened.{TrackOpened}
+use Rattle.opening.specs.declared.TrackOpened.the-variants.{Track, Fails}
+use Rattle.opening.specs.declared.Lines.{Lines}
+use Rattle.opening.specs.declared.Lines.the-variants.{Goes, Stops}
+use Rattle.opening.proofs.Work.{onward, goes-on, stops-there, begun, first-leads, Fits, opened-fits, all-said}
+use Rattle.opening.proofs.Work.{last-leads}
+use Rattle.node_lines.specs.code.Nodes.{nodes-read}
+use Rattle.node_lines.proofs.Laws.{labelled, nodes-lead}
+use Rattle.pair_lines.specs.code.Pairs.{pairs-read}
+use Rattle.pair_lines.proofs.Laws.{due-of, with-pairs, pairs-lead}
 use Rattle.reading.specs.code.Outcome.{Held, answer, failed, stopped}
 use Rattle.reading.specs.declared.Read.{Read}
 use Rattle.reading.specs.declared.Read.the-variants.{Accepted, Refused}
@@ -151,9 +155,9 @@ module _ (text : List ℕ) (d : ℕ) (ks xs rs : List ℕ) where
       → t₃ ≡ meetings-read n a s text m₂ .answer → t₃ ≡ Goes m₃
       → t₄ ≡ last-read (n + a + 2 + s) m₃ (lines (drop m₃ text)) → t₄ ≡ Goes m₄
       → {zeros ls none arcs-in gs : List ℕ}
-      → ls ≡ sets zeros 0 (marks-of ks xs rs 0 (nodes-read d n text next .said)) → zeros ≡ replicate 8193 0
+      → ls ≡ sets zeros 0 (marks-of ks xs rs 0 (nodes-read d n text next .said)) → zeros ≡ replicate reference-room 0
       → arcs-in ≡ sets none 0 (flat (arcs-read n a text m .said)) → none ≡ replicate track-words 0
-      → gs ≡ sets arcs-in 16384 (flat (meetings-read n a s text m₂ .said))
+      → gs ≡ sets arcs-in meetings-from (flat (meetings-read n a s text m₂ .said))
       → Done ls gs (Accepted (record { nodes = n; arcs = a; meetings = s }))
   unfolding answer Held
   all-done {n} {a} {s} {next} {m} {m₂} c p₁ g₁ p₂ g₂ p₃ g₃ p₄ g₄ {ls = ls} {gs = gs} labels-in z arcs-in w all-in =
@@ -163,7 +167,7 @@ module _ (text : List ℕ) (d : ℕ) (ks xs rs : List ℕ) where
         subst (λ (q : Parsed). Held ks xs rs q ls gs) (sym p) (
           labels-in ∙ ap (λ (u : List ℕ). sets u 0 (marks-of ks xs rs 0 (nodes-read d n text next .said))) z,
           all-in
-              ∙ ap (λ (u : List ℕ). sets u 16384 (flat (meetings-read n a s text m₂ .said)))
+              ∙ ap (λ (u : List ℕ). sets u meetings-from (flat (meetings-read n a s text m₂ .said)))
               (arcs-in ∙ ap (λ (u : List ℕ). sets u 0 (flat (arcs-read n a text m .said))) w),
           (
             omega (arith, counted .0, c .nodes-fit),

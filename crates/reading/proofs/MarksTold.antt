@@ -18,7 +18,7 @@ use Rattle.frames.specs.TableFrame.{term-room, definition-room}
 use Rattle.tables.specs.Table.{Sofar, judged, accepted}
 use Rattle.tables.specs.words.Columns.{kinds, payloads, afters, roots}
 use Rattle.tables.proofs.Whole.{zeros-column}
-use Rattle.terms.specs.Term.{Term, leaf, prefix, binary, definitions-of}
+use Rattle.terms.specs.Term.{Term, leaf, prefix, binary, size, definitions-of}
 use Rattle.terms.specs.words.Held.{HoldsTerm}
 use Rattle.terms.proofs.Trees.{checked-trees}
 use Rattle.terms.proofs.Held.{column-at, checked-holds}
@@ -26,9 +26,10 @@ use Rattle.places.specs.Place.{Place, left-path, term-at, IsPrefix, Literal, ow
 use Rattle.columns.specs.words.Columns.{look}
 use Rattle.columns.proofs.Laws.{look-in, look-out}
 use Rattle.places.proofs.Sides.{prefix-inside}
-use Rattle.places.proofs.Laws.{own-only, event-only, left-apart, holds-at}
+use Rattle.places.proofs.Laws.{own-only, event-only, left-apart, holds-at, checked-roots}
 use Rattle.marks.specs.words.Mark.{term-of, is-event}
-use Rattle.marks.proofs.Laws.{low-read, low-tested, own-read, event-read, own-tested, event-tested, term-is}
+use Rattle.marks.proofs.Laws.{low-read, low-tested, own-is, event-is, own-read, event-read, own-tested}
+use Rattle.marks.proofs.Laws.{event-tested, term-is}
 use Rattle.rules.specs.Track.{Label, lookup}
 use Rattle.plans.specs.words.Plan.{Layout}
 use Rattle.plans.specs.words.Layout.{layout}
@@ -65,7 +66,7 @@ data Told (s : Sofar) (o : Option Place) (m : ℕ) : Type 0 where
       → m ≡ mark-of-literal (look definition-room (roots s) (w .definition)) (some l) → Told s o m
 
 -- the places that a term's two marks tell
-module _ (l : Layout) (m t : ℕ) where
+module _ (l : Layout) (t : ℕ) {m : ℕ} where
   own-place : m ≡ 2 + 2 * t → mark-told l m ≡ some (l .place t)
   unfolding mark-told literal-place
   own-place e = rw (ne-eqb m 0 (λ z. omega arith), own-read m t e)
@@ -75,7 +76,7 @@ module _ (l : Layout) (m t : ℕ) where
   event-place e = rw (ne-eqb m 0 (λ z. omega arith), event-read m t e)
 
 -- and the events
-module _ (ps : List ℕ) (m t : ℕ) where
+module _ (ps : List ℕ) (t : ℕ) {m : ℕ} where
   own-event : m ≡ 2 + 2 * t → event-told ps m ≡ none
   unfolding event-told
   own-event e = rw (own-tested m t e .1)
@@ -144,6 +145,10 @@ module _ (text : List ℕ) (s : Sofar) (q : judged text ≡ accepted s) where
   abbrev root : ℕ → ℕ
   root k = look definition-room (roots s) k
 
+  -- the number of a definition's term is a term's
+  inside : (k : ℕ) (T : Term) → getElem? ts k ≡ some T → (n : ℕ) → n < size T → root k + n < term-room
+  inside k T e n h = omega (arith, checked-roots text s q k T e .fits)
+
   -- a mark tells its place
   told-place : (o : Option Place) (m : ℕ) → Told s o m → o ≡ mark-told (layout s) m
   unfolding mark-told literal-place mark-of-literal
@@ -154,13 +159,16 @@ module _ (text : List ℕ) (s : Sofar) (q : judged text ≡ accepted s) where
       let is : w ≡ layout s .place (root (w .definition) + n) =
       ap (λ (v : List ℕ). record { definition = w .definition; path = v }) p
       ∙ sym (definition-sited text s q (w .definition) T e n h) in
-      a ∙ ap some is ∙ sym (own-place (layout s) m (root (w .definition) + n) (omega (arith, b)))
+      let i = root (w .definition) + n in
+      a ∙ ap some is ∙ sym (own-place (layout s) i (b ∙ own-is i (inside (w .definition) T e n h)))
   told-place o m (literal w T (event n) a e x b) =
       let (h, p) = event-only T (w .path) n x in
       let is : w ≡ layout s .event (root (w .definition) + n) =
       ap (λ (v : List ℕ). record { definition = w .definition; path = v }) p
       ∙ sym (event-of-definition text s q (w .definition) T e n h) in
-      a ∙ ap some is ∙ sym (event-place (layout s) m (root (w .definition) + n) (omega (arith, b)))
+      let i = root (w .definition) + n in
+      let mark = b ∙ event-is i (inside (w .definition) T e n (prefix-inside T n h)) in
+      a ∙ ap some is ∙ sym (event-place (layout s) i mark)
 
   -- no event stands at the left-hand side
   left-no-event : (o : Option Term) → event-of-literal ts o (in-definition o left-path) ≡ none
@@ -174,7 +182,9 @@ module _ (text : List ℕ) (s : Sofar) (q : judged text ≡ accepted s) where
   told-event o m (bare a b) = rw (a, low-tested m (omega arith) .1)
   told-event o m (start a b) = rw (a, low-tested m (omega arith) .1) (left-no-event (getElem? ts 0))
   told-event o m (literal w T (own n) a e x b) =
-      rw (a, e, x) (sym (own-event (payloads s) m (root (w .definition) + n) (omega (arith, b))))
+      let i = root (w .definition) + n in
+      let (h, p) = own-only T (w .path) n x in
+      rw (a, e, x) (sym (own-event (payloads s) i (b ∙ own-is i (inside (w .definition) T e n h))))
   told-event o m (literal w T (event n) a e x b) =
       let i = root (w .definition) + n in
       let (h, p) = event-only T (w .path) n x in
@@ -182,12 +192,12 @@ module _ (text : List ℕ) (s : Sofar) (q : judged text ≡ accepted s) where
       let few = listed-below ts (w .definition) T e in
       let table = checked-trees text s q in
       let at-root = look-in definition-room (roots s) (w .definition) (omega arith) in
-      let inside : i < term-room = omega (arith, prefix-inside T n h) in
+      let below = inside (w .definition) T e n (prefix-inside T n h) in
       let held = rw at-root at (stands .holds) in
       let held-there = holds-at (kinds s) (payloads s) (afters s) T n (prefix-inside T n h) _ held in
       rw (a, e, x)
       (payload-event (kinds s) (payloads s) (afters s) ts (term-at T n) i held-there h
-      ∙ ap some (look-in term-room (payloads s) i inside) ∙ sym (event-event (payloads s) m i (omega (arith, b))))
+      ∙ ap some (look-in term-room (payloads s) i below) ∙ sym (event-event (payloads s) i (b ∙ event-is i below)))
 
   -- the mark at a place is that of the literal there
   abbrev found-at : Place → ℕ

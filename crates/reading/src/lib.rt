@@ -15,12 +15,12 @@ use links::Column;
 use links::GraphCounts;
 use links::SIDE_WORDS;
 use links::SideWords;
-use parsing::Lines;
-use parsing::TrackOpened;
-use parsing::first_line;
-use parsing::last_lines;
-use parsing::read_nodes;
-use parsing::read_pairs;
+use node_lines::read_nodes;
+use opening::Lines;
+use opening::TrackOpened;
+use opening::first_line;
+use opening::last_lines;
+use pair_lines::read_pairs;
 use shapes::has_shape;
 ghost use mathlib.Core.Path.{_≡_};
 ghost use lib.ListN.{replicate};
@@ -28,6 +28,8 @@ ghost use Rattle.graphs.specs.Parsed.{parsed};
 ghost use Rattle.reading.specs.code.Outcome as of;
 ghost use Rattle.columns.specs.words.Columns.{read-columns};
 ghost use Rattle.reading.specs.words.Kept.{Reads};
+ghost use Rattle.control.specs.words.Words.{reference-room, track-words};
+ghost use Rattle.links.specs.code.Linked.{side-words};
 
 // What reading comes to: the counts of the graph that was read; or a refusal's number and line.
 pub enum Read {
@@ -63,12 +65,12 @@ pub fn read_track(
     ensures { λ r. ⌜ Reads definitions (read-columns (now (kinds .entry)) (now (payloads .entry)) (now (after .entry))
         (now (roots .entry))) (now (text .entry)) (now (labels .entry)) (now (graph .entry))
         r (now (labels .exit)) (now (graph .exit)) ⌝ }
-    ensures { λ _. ⌜ now (marks .exit) ≡ replicate 8193 0 ⌝ }
-    ensures { λ _. ⌜ now (track .exit) ≡ replicate 28672 0 ⌝ }
-    ensures { λ _. ⌜ now (sides .exit) ≡ replicate 16388 0 ⌝ }
-    ensures { λ _. ⌜ now (pending .exit) ≡ replicate 16388 0 ⌝ }
-    ensures { λ _. ⌜ now (numbers .exit) ≡ replicate 8193 0 ⌝ }
-    ensures { λ _. ⌜ now (walked .exit) ≡ replicate 8193 0 ⌝ }
+    ensures { λ _. ⌜ now (marks .exit) ≡ replicate reference-room 0 ⌝ }
+    ensures { λ _. ⌜ now (track .exit) ≡ replicate track-words 0 ⌝ }
+    ensures { λ _. ⌜ now (sides .exit) ≡ replicate side-words 0 ⌝ }
+    ensures { λ _. ⌜ now (pending .exit) ≡ replicate side-words 0 ⌝ }
+    ensures { λ _. ⌜ now (numbers .exit) ≡ replicate reference-room 0 ⌝ }
+    ensures { λ _. ⌜ now (walked .exit) ≡ replicate reference-room 0 ⌝ }
 {
     let judged = judge(
         text,
@@ -98,8 +100,8 @@ fn hand_over(
 )
     ensures { λ _. ⌜ now (labels .exit) ≡ of.handed judged (now (marks .entry)) (now (labels .entry)) ⌝ }
     ensures { λ _. ⌜ now (graph .exit) ≡ of.handed judged (now (track .entry)) (now (graph .entry)) ⌝ }
-    ensures { λ _. ⌜ now (marks .exit) ≡ replicate 8193 0 ⌝ }
-    ensures { λ _. ⌜ now (track .exit) ≡ replicate 28672 0 ⌝ }
+    ensures { λ _. ⌜ now (marks .exit) ≡ replicate reference-room 0 ⌝ }
+    ensures { λ _. ⌜ now (track .exit) ≡ replicate track-words 0 ⌝ }
 {
     if let Read::Accepted(_) = judged {
         *labels = *marks;
@@ -129,10 +131,10 @@ fn judge(
     ensures { λ _. ⌜ of.Held (now (kinds .entry)) (now (after .entry)) (now (roots .entry))
         (of.outcome (now (kinds .entry)) (now (payloads .entry)) (now (after .entry)) (now (roots .entry))
         definitions (now (text .entry))) (now (labels .exit)) (now (graph .exit)) ⌝ }
-    ensures { λ _. ⌜ now (sides .exit) ≡ replicate 16388 0 ⌝ }
-    ensures { λ _. ⌜ now (pending .exit) ≡ replicate 16388 0 ⌝ }
-    ensures { λ _. ⌜ now (numbers .exit) ≡ replicate 8193 0 ⌝ }
-    ensures { λ _. ⌜ now (walked .exit) ≡ replicate 8193 0 ⌝ }
+    ensures { λ _. ⌜ now (sides .exit) ≡ replicate side-words 0 ⌝ }
+    ensures { λ _. ⌜ now (pending .exit) ≡ replicate side-words 0 ⌝ }
+    ensures { λ _. ⌜ now (numbers .exit) ≡ replicate reference-room 0 ⌝ }
+    ensures { λ _. ⌜ now (walked .exit) ≡ replicate reference-room 0 ⌝ }
 {
     let read = read_lines(text, definitions, kinds, after, roots, labels, graph);
     let Read::Accepted(counts) = read else {

@@ -1,13 +1,13 @@
 -- What a text says at a cursor. Where the next line is none, its number is that of the answer; where it is
 -- one, its characters are a part of the text that stands for bytes, and the frame that was read of it is
 -- theirs. Assumes nothing.
-use Prim.Native.Nat.{ℕ, _-_, _+_}
+use Prim.Native.Nat.{ℕ, _+_}
 use mathlib.Core.Path.{_≡_, refl, sym, ap, _∙_}
 use mathlib.Core.Bool.{Bool, true, false, not}
 use mathlib.Core.List.{List, [], _∷_}
 use mathlib.Core.Option.{none, some}
 use native.Mathlib.Omega.{arith}
-use lib.ListN.{length, drop, length-take, length-drop}
+use lib.ListN.{length, drop}
 use lib.Dec.{eqb}
 use borrow.Author.Tests.{eq-eqb, ne-eqb}
 use denote.Enum.Declared.{tagOf}
@@ -17,7 +17,9 @@ use Rattle.lines.specs.code.Characters.{part}
 use Rattle.lines.specs.declared.Line.{Line}
 use Rattle.lines.specs.declared.Line.the-variants.{Found, NoLine, End}
 use Rattle.lines.proofs.Line as line
-use Rattle.lines.proofs.Laws.{IsLine, is-line, not-a-line, none-left, part-some}
+use Rattle.lines.proofs.Laws.{IsLine, is-line, not-a-line, none-left, past}
+use Rattle.numbers.specs.code.Numbers.{read-bytes}
+use Rattle.numbers.proofs.Laws.{bytes-read}
 use Rattle.frames.specs.TableFrame.{frame-of, first-refusal}
 use Rattle.refusals.specs.code.Said.{heard, said, opens, opened-by, opened}
 use Rattle.frames.specs.declared.Frame.{Frame}
@@ -55,15 +57,10 @@ module _ (s : List ℕ) (at : ℕ) {l : Line} (seen : l ≡ answer at (lines (dr
   opened-none e = ap Fails e ∙ no-line Fails opened refl (λ l ls b. rw b) s at l seen none
 
 -- a line: where the next one begins, and what its bytes say
-module _ (s : List ℕ) (at e n : ℕ) (i : IsLine s at e n) where
-  past : at + length (part s at e) + 1 ≡ n
-  past =
-      let c = ap length (part-some s at e (omega arith) (omega arith)) in
-      omega (arith, length-take (e - at) (drop at s), length-drop at s)
-
-  said-line : (r : Frame → ℕ) → heard r n (some (i .held)) ≡ said r at (lines (drop at s))
-  unfolding said characters
-  said-line r = rw (i .first, i .framed, past)
+said-line : (s : List ℕ) (at e n : ℕ) (i : IsLine s at e n) (r : Frame → ℕ)
+    → heard r n (some (i .held)) ≡ said r at (lines (drop at s))
+unfolding said characters
+said-line s at e n i r = rw (i .first, i .framed, past s at e n i)
 
 opened-line : (s : List ℕ) (e n : ℕ) (i : IsLine s 0 e n) → opens n (frame-of (i .held)) ≡ opened (lines s)
 unfolding opened opened-by characters
@@ -100,13 +97,12 @@ opens-other n Wrong h = refl
 
 -- what was found at a cursor, and the frame that was read of its characters
 module _ (s : List ℕ) (at e n : ℕ) {l : Line} (seen : l ≡ answer at (lines (drop at s))) (found : l ≡ Found e n)
-    {cs : List ℕ} (chars : cs ≡ part s at e) {f : Frame}
-    (read : (bs : List ℕ) → bytes cs ≡ some bs → f ≡ frame-of bs) where
+    {cs : List ℕ} (chars : cs ≡ part s at e) {f : Frame} (read : f ≡ frame-of (read-bytes cs)) where
   its : IsLine s at e n
   its = is-line s at e n (sym seen ∙ found)
 
   framed : f ≡ frame-of (its .held)
-  framed = read (its .held) (ap bytes chars ∙ its .stands)
+  framed = read ∙ ap frame-of (bytes-read cs (its .held) (ap bytes chars ∙ its .stands))
 
   module _ (r : Frame → ℕ) {x : ℕ} (meets : x ≡ r f) where
     pub said-stops : (x ≡ 0 → ⊥) → Stops x ≡ said r at (lines (drop at s))
@@ -116,8 +112,7 @@ module _ (s : List ℕ) (at e n : ℕ) {l : Line} (seen : l ≡ answer at (lines
     said-goes h = heard-goes r n (its .held) framed meets h ∙ said-line s at e n its r
 
 module _ (s : List ℕ) (e n : ℕ) {l : Line} (seen : l ≡ answer 0 (lines s)) (found : l ≡ Found e n)
-    {cs : List ℕ} (chars : cs ≡ part s 0 e) {f : Frame}
-    (read : (bs : List ℕ) → bytes cs ≡ some bs → f ≡ frame-of bs) where
+    {cs : List ℕ} (chars : cs ≡ part s 0 e) {f : Frame} (read : f ≡ frame-of (read-bytes cs)) where
   opened-is : opens n f ≡ opened (lines s)
   opened-is =
       ap (opens n) (framed s 0 e n seen found chars read)

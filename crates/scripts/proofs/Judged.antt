@@ -1,6 +1,6 @@
--- A line of a script by its characters: what each test of the code says of what the line asks. The bytes of the
--- characters are the frame's, so each test is one of `well-formed` or `in-range`. Assumes nothing.
-use Prim.Native.Nat.{ℕ, suc, _≤_, _<_, _-_, _+_, _*_, _/_}
+-- A line of a script by its characters: what each test of the code says of what their bytes ask. Each test is one of
+-- `well-formed` or `in-range`. Assumes nothing.
+use Prim.Native.Nat.{ℕ, suc, _≤_, _<_, _-_, _+_, _/_}
 use mathlib.Core.Path.{_≡_, sym, ap, _∙_}
 use mathlib.Core.Bool.{Bool, true, false, and-false}
 use mathlib.Core.List.{List, _∷_}
@@ -11,28 +11,27 @@ use lib.ListN.{length, take, drop, getD, set, length-take, length-drop, drop-of-
 use lib.Dec.{eqb}
 use lib.Seq.{drop-cons, getD-drop, sets}
 use borrow.Author.Tests.{le-leb, lt-leb, eq-eqb, ne-eqb}
-use Rattle.lines.specs.Line.{bytes, number}
-use Rattle.numbers.specs.code.Numbers.{byteAt, numberOf}
-use Rattle.numbers.proofs.Laws.{byte-is, bytes-drop, bytes-take, number-is}
-use Rattle.lines.proofs.Laws.{bytes-length}
+use Rattle.lines.specs.Line.{number}
+use Rattle.numbers.specs.code.Numbers.{read-bytes, byteAt, numberOf}
+use Rattle.numbers.proofs.Laws.{read-length, read-take, read-drop, number-read}
 use Rattle.scripts.specs.Script.{most, digits, well-formed, all-digits, in-range, asked}
 use Rattle.scripts.specs.code.Answers.{refusal}
 
-module _ (cs bs : List ℕ) (held : bytes cs ≡ some bs) where
-  count : length cs / 2 ≡ length bs
-  count = let e : length cs ≡ 2 * length bs = bytes-length cs bs held in omega arith
+module _ (cs : List ℕ) where
+  abbrev bs : List ℕ
+  bs = read-bytes cs
 
   -- byte number k is a digit or none, and the rest follows
   module _ (k : ℕ) where
     pub digits-end : length cs / 2 ≤ k → all-digits (drop k bs) ≡ true
     unfolding all-digits
     digits-end h =
-        let e : length bs ≤ k = omega (arith, count) in
+        let e : length bs ≤ k = omega (arith, read-length cs) in
         rw (drop-of-length-le bs e)
 
     module _ (more : k < length cs / 2) where
       next : drop k bs ≡ byteAt cs k ∷ drop (suc k) bs
-      next = rw (byte-is cs bs k held) (drop-cons bs k 0 (omega (arith, count)))
+      next = drop-cons bs k 0 (omega (arith, read-length cs))
 
       pub digit-low : byteAt cs k < 1 → all-digits (drop k bs) ≡ false
       unfolding all-digits
@@ -52,7 +51,7 @@ module _ (cs bs : List ℕ) (held : bytes cs ≡ some bs) where
       → sets (set l i b) (i + 1) (drop (i + 1) (digits bs)) ≡ sets l i (drop i (digits bs))
   digit-stored l i b e h =
       let n : 3 + i ≡ i + 3 = omega arith in
-      let d = getD-drop 3 bs i 0 ∙ ap (λ (m : ℕ). getD bs m 0) n ∙ sym (byte-is cs bs (i + 3) held) ∙ sym e in
+      let d = getD-drop 3 bs i 0 ∙ ap (byteAt cs) n ∙ sym e in
       rw (add-one, drop-cons (digits bs) i 0 h, d)
 
   pub digits-stored : (l : List ℕ) (i : ℕ) → length (digits bs) ≤ i → sets l i (drop i (digits bs)) ≡ l
@@ -61,12 +60,12 @@ module _ (cs bs : List ℕ) (held : bytes cs ≡ some bs) where
   -- llll, as it is read from its four characters
   stated : numberOf 0 (take 4 (drop 2 cs)) ≡ number (take 2 (drop 1 bs))
   stated =
-      let e = bytes-take (drop 2 cs) (drop 1 bs) 2 (bytes-drop cs bs 1 held) in
-      let n : length (take 2 (drop 1 bs)) ≤ 8 = simp length-take (omega arith) in
-      number-is (take 4 (drop 2 cs)) (take 2 (drop 1 bs)) e n
+      let few : length (take 4 (drop 2 cs)) / 2 ≤ 8 = omega (arith, length-take 4 (drop 2 cs)) in
+      number-read (take 4 (drop 2 cs)) few
+      ∙ ap number (read-take (drop 2 cs) 2 ∙ ap (take 2) (read-drop cs 1))
 
   counted : length cs / 2 - 3 ≡ length (digits bs)
-  counted = omega (arith, count, length-drop 3 bs)
+  counted = omega (arith, read-length cs, length-drop 3 bs)
 
   -- refusal 2
   not-formed : well-formed bs ≡ false → 2 ≡ refusal (asked (some bs))
@@ -76,19 +75,19 @@ module _ (cs bs : List ℕ) (held : bytes cs ≡ some bs) where
   pub too-short : length cs / 2 < 3 → 2 ≡ refusal (asked (some bs))
   unfolding well-formed
   too-short h =
-      let short = lt-leb 3 (length bs) (omega (arith, count)) in
+      let short = lt-leb 3 (length bs) (omega (arith, read-length cs)) in
       not-formed (simp (short, and-false (eqb (getD bs 0 0) 0x20)))
 
   pub other-tag : (byteAt cs 0 ≡ 0x20 → ⊥) → 2 ≡ refusal (asked (some bs))
   unfolding well-formed
-  other-tag h = not-formed (simp (ne-eqb (getD bs 0 0) 0x20 (λ e. h (byte-is cs bs 0 held ∙ e))))
+  other-tag h = not-formed (simp (ne-eqb (byteAt cs 0) 0x20 h))
 
   module _ (long : 3 ≤ length cs / 2) (tagged : byteAt cs 0 ≡ 0x20) where
     formed : (b : Bool) → eqb (number (take 2 (drop 1 bs))) (length (digits bs)) ≡ b → well-formed bs ≡ b
     unfolding well-formed
     formed b e =
-        let tag = eq-eqb (getD bs 0 0) 0x20 (sym (byte-is cs bs 0 held) ∙ tagged) in
-        let headed = le-leb 3 (length bs) (omega (arith, count)) in
+        let tag = eq-eqb (byteAt cs 0) 0x20 tagged in
+        let headed = le-leb 3 (length bs) (omega (arith, read-length cs)) in
         simp (tag, headed, e)
 
     pub other-count : (numberOf 0 (take 4 (drop 2 cs)) ≡ length cs / 2 - 3 → ⊥) → 2 ≡ refusal (asked (some bs))

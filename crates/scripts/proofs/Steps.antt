@@ -1,13 +1,13 @@
 -- The answer at a cursor by what the line finder and the judging say there: no line, a refused line, or a
 -- line that asks for a step. A found line is the first of the script's lines, and its characters stand for
 -- the frame that is judged. Assumes nothing.
-use Prim.Native.Nat.{ℕ, _≤_, _-_, _+_, _*_, _/_}
+use Prim.Native.Nat.{ℕ, _≤_, _-_, _/_}
 use mathlib.Core.Path.{_≡_, refl, sym, ap, _∙_}
 use mathlib.Core.Bool.{Bool, true, false, _&&_}
 use mathlib.Core.List.{List, []}
 use mathlib.Core.Option.{some}
 use native.Mathlib.Omega.{arith}
-use lib.ListN.{length, take, drop, getD, length-take, length-drop}
+use lib.ListN.{length, take, drop, getD, length-drop}
 use lib.Dec.{leb, eqb}
 use borrow.Author.Tests.{leb-true}
 use Rattle.lines.specs.Line.{choose, number, lines, bytes, characters, answer as line-at}
@@ -15,7 +15,9 @@ use Rattle.lines.specs.code.Characters.{part}
 use Rattle.lines.specs.declared.Line.{Line}
 use Rattle.lines.specs.declared.Line.the-variants.{Found, NoLine, End as NoneLeft}
 use Rattle.lines.proofs.Digits.{both}
-use Rattle.lines.proofs.Laws.{IsLine, is-line, not-a-line, none-left, part-some, bytes-length}
+use Rattle.lines.proofs.Laws.{IsLine, is-line, not-a-line, none-left, past}
+use Rattle.numbers.specs.code.Numbers.{read-bytes}
+use Rattle.numbers.proofs.Laws.{read-length, bytes-read}
 use Rattle.scripts.specs.declared.ScriptStep.{ScriptStep}
 use Rattle.scripts.specs.declared.ScriptStep.the-variants.{Address, Refused}
 use Rattle.scripts.specs.Script.{most, digits, well-formed, all-digits, in-range, asked, Asked, address}
@@ -67,13 +69,11 @@ module _ (s : List ℕ) (at : ℕ) where
 
   -- a line of these characters asks for a step, and the next line is from n on
   pub record StepAt (n : ℕ) (cs : List ℕ) : Type 0 where
-    pub held : List ℕ
-    pub stands : bytes cs ≡ some held
     pub long : 3 ≤ length cs / 2
     pub few : length cs / 2 - 3 ≤ most
-    pub counted : length (digits held) ≡ length cs / 2 - 3
+    pub counted : length (digits (read-bytes cs)) ≡ length cs / 2 - 3
     pub told : Address (length cs / 2 - 3) n ≡ answer at (lines (drop at s))
-    pub stored : left (lines (drop at s)) ≡ digits held
+    pub stored : left (lines (drop at s)) ≡ digits (read-bytes cs)
 
   pub no-line : (line : Line) → line ≡ line-at at (lines (drop at s)) → ((e n : ℕ) → line ≡ Found e n → ⊥)
       → NoStep (without-line line)
@@ -91,46 +91,36 @@ module _ (s : List ℕ) (at : ℕ) where
     line : IsLine s at e n
     line = is-line s at e n found
 
-    -- its last character and the LF
-    ended : at + length (part s at e) + 1 ≡ n
-    ended =
-        let l = line in
-        let p : take (e - at) (drop at s) ≡ part s at e = part-some s at e (omega arith) (omega arith) in
-        omega (arith, ap length p, length-take (e - at) (drop at s), length-drop at s)
-
-    answered : (a : Asked) → asked (some (line .held)) ≡ a → told n a ≡ answer at (lines (drop at s))
-    unfolding answer characters
-    answered a q = rw (line .first, line .framed, q, ended)
-
-    leaves : (a : Asked) → asked (some (line .held)) ≡ a → left (lines (drop at s)) ≡ digits-of a
-    unfolding left
-    leaves a q = rw (line .first, line .framed, q)
-
     -- its characters, and the number that the judging gave them
-    module _ (cs : List ℕ) (own : cs ≡ part s at e) (r : ℕ)
-        (judged : (bs : List ℕ) → bytes cs ≡ some bs → r ≡ refusal (asked (some bs))) where
-      stands : bytes cs ≡ some (line .held)
-      stands = ap bytes own ∙ line .stands
+    module _ (cs : List ℕ) (own : cs ≡ part s at e) (r : ℕ) (judged : r ≡ refusal (asked (some (read-bytes cs)))) where
+      stands : line .held ≡ read-bytes cs
+      stands = sym (bytes-read cs (line .held) (ap bytes own ∙ line .stands))
+
+      answered : (a : Asked) → asked (some (read-bytes cs)) ≡ a → told n a ≡ answer at (lines (drop at s))
+      unfolding answer characters
+      answered a q = rw (line .first, line .framed, stands, q, past s at e n line)
+
+      leaves : (a : Asked) → asked (some (read-bytes cs)) ≡ a → left (lines (drop at s)) ≡ digits-of a
+      unfolding left
+      leaves a q = rw (line .first, line .framed, stands, q)
 
       pub refused-line : (r ≡ 0 → ⊥) → NoStep (Refused r)
       unfolding told digits-of
       refused-line h =
-          let q = is-refused (line .held) r (judged (line .held) stands) h in
+          let q = is-refused (read-bytes cs) r judged h in
           record { told = answered (refused r) q; bare = leaves (refused r) q }
 
       pub step-line : r ≡ 0 → StepAt n cs
       unfolding told digits-of
       step-line z =
-          let q = is-step (line .held) (sym z ∙ judged (line .held) stands) in
-          let k : length cs ≡ 2 * length (line .held) = bytes-length cs (line .held) stands in
-          let ds = digits (line .held) in
-          let d : length ds ≡ length cs / 2 - 3 = omega (arith, length-drop 3 (line .held)) in
+          let bs = read-bytes cs in
+          let q = is-step bs (sym z ∙ judged) in
+          let k : length bs ≡ length cs / 2 = read-length cs in
+          let d : length (digits bs) ≡ length cs / 2 - 3 = omega (arith, length-drop 3 bs) in
           record {
-            held = line .held;
-            stands = stands;
             long = omega arith;
             few = omega arith;
             counted = d;
-            told = rw (← d) (answered (address ds) (q .asks));
-            stored = leaves (address ds) (q .asks);
+            told = rw (← d) (answered (address (digits bs)) (q .asks));
+            stored = leaves (address (digits bs)) (q .asks);
           }

@@ -9,12 +9,12 @@ use lines::next_line;
 use numbers::byte;
 use numbers::number;
 ghost use mathlib.Core.Path.{_≡_};
-ghost use mathlib.Core.List.{List};
 ghost use mathlib.Core.Option.{some};
-ghost use Prim.Native.Nat.{ℕ, _≤_};
+ghost use Prim.Native.Nat.{_≤_};
 ghost use lib.ListN.{length, drop};
 ghost use lib.Seq.{sets};
-ghost use Rattle.lines.specs.Line.{lines, bytes};
+ghost use Rattle.lines.specs.Line.{lines};
+ghost use Rattle.numbers.specs.code.Numbers.{read-bytes};
 ghost use Rattle.scripts.specs.Script.{most, digits as behind, all-digits, asked, answer, left};
 ghost use Rattle.scripts.specs.code.Answers.{without-line, refusal};
 
@@ -79,7 +79,7 @@ fn no_step(line: Line) -> ScriptStep
 
 // The number of the refusal of a line by its characters, 0 where it asks for a step.
 fn judge(chars: &[u8]) -> u8
-    ensures { λ r. ⌜ ((bs : List ℕ) → bytes (now (chars .entry)) ≡ some bs → r ≡ refusal (asked (some bs))) ⌝ }
+    ensures { λ r. ⌜ r ≡ refusal (asked (some (read-bytes (now (chars .entry))))) ⌝ }
 {
     let n = chars.len() / 2;
     if n < HEAD {
@@ -103,7 +103,7 @@ fn judge(chars: &[u8]) -> u8
 
 // Whether each byte behind `20 llll` is a digit of an address.
 fn digits_fit(chars: &[u8]) -> bool
-    ensures { λ r. ⌜ ((bs : List ℕ) → bytes (now (chars .entry)) ≡ some bs → r ≡ all-digits (behind bs)) ⌝ }
+    ensures { λ r. ⌜ r ≡ all-digits (behind (read-bytes (now (chars .entry)))) ⌝ }
 {
     let n = chars.len() / 2;
     let mut k = HEAD;
@@ -122,9 +122,9 @@ fn digits_fit(chars: &[u8]) -> bool
 
 // The digits of a line that has `count` of them, at the front of the array.
 fn write_digits(chars: &[u8], count: usize, digits: &mut Digits)
-    requires { ⌜ count ≤ most ⌝ }
-    ensures { λ _. ⌜ ((bs : List ℕ) → bytes (now (chars .entry)) ≡ some bs → length (behind bs) ≡ count
-        → now (digits .exit) ≡ sets (now (digits .entry)) 0 (behind bs)) ⌝ }
+    requires { ⌜ (count ≤ most) × (length (behind (read-bytes (now chars))) ≡ count) ⌝ }
+    ensures { λ _. ⌜ now (digits .exit)
+        ≡ sets (now (digits .entry)) 0 (behind (read-bytes (now (chars .entry)))) ⌝ }
 {
     let mut i = 0;
     while i < count {

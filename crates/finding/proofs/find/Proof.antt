@@ -2,12 +2,10 @@
 -- digits that are left, is what is found from the root. The measure is how many bytes are left. Assumes nothing.
 use Prim.Native.Nat.{ℕ, _+_, _-_}
 use mathlib.Core.Path.{_≡_, refl, sym, ap, _∙_}
-use mathlib.Core.List.{List}
 use mathlib.Core.Logic.{⊎-elim}
-use mathlib.Core.Option.{some}
 use native.Mathlib.Omega.{arith}
 use lib.ListN.{drop}
-use Rattle.lines.specs.Line.{bytes}
+use Rattle.numbers.specs.code.Numbers.{read-bytes}
 use Rattle.kinds.specs.Kind.{subterms}
 use Rattle.places.proofs.Ways.{inside}
 use Rattle.finding.specs.code.Found as of
@@ -19,13 +17,13 @@ use Rattle.finding.proofs.find.Tie as tie
 
 abbrev Inv-loop : tie.InvT-loop
 Inv-loop root chars kinds after count term₀ i₀ term i =
-    (bs : List ℕ) → bytes chars ≡ some bs → of.find kinds after root (drop 5 bs) ≡ of.find kinds after term (drop i bs)
+    of.find kinds after root (drop 5 (read-bytes chars)) ≡ of.find kinds after term (drop i (read-bytes chars))
 
 abbrev μ-loop : tie.MeasureT-loop
 μ-loop root chars kinds after count term₀ i₀ term i = count - i
 
 loop-holds : tie.Need-loop-holds Inv-loop μ-loop
-loop-holds c = λ bs e. refl
+loop-holds c = refl
 
 byte-requires : tie.Need-byte-requires Inv-loop μ-loop
 byte-requires c κs = search needs
@@ -42,21 +40,15 @@ returns c =
     let at-byte = at-kind-of .before in
     let at-loop-test = at-byte .before in
     let at-loop = at-loop-test .before in
-    λ bs e.
-    found-leaf _ bs e _ _ _ _ (at-loop-test .loop-test .taken) (at-byte .byte .ensures)
+    found-leaf _ _ _ _ _ (at-loop-test .loop-test .taken) (at-byte .byte .ensures)
     (c .before .subterms .ensures ∙ ap subterms (at-kind-of .kind-of .ensures)) (c .if1 .taken)
-    ∙ sym (at-loop .loop .inv bs e)
+    ∙ sym (at-loop .loop .inv)
 
-add-event-mark : tie.Need-add-event-mark Inv-loop μ-loop
-add-event-mark c = search needs
+add-event-end : tie.Need-add-event-end Inv-loop μ-loop
+add-event-end c = search needs
 
-event-mark-requires : tie.Need-event-mark-requires Inv-loop μ-loop
-event-mark-requires c κs =
-    let at-if1 = c .before .before in
-    let at-subterms = at-if1 .before in
-    let at-kind-of = at-subterms .before in
-    inside _ _ (λ z. at-if1 .if1 .left
-    (at-subterms .subterms .ensures ∙ ap subterms (at-kind-of .kind-of .ensures) ∙ z))
+event-end-requires : tie.Need-event-end-requires Inv-loop μ-loop
+event-end-requires c κs = search needs
 
 returns-2 : tie.Need-returns-2 Inv-loop μ-loop
 returns-2 c =
@@ -67,11 +59,10 @@ returns-2 c =
     let at-byte = at-kind-of .before in
     let at-loop-test = at-byte .before in
     let at-loop = at-loop-test .before in
-    λ bs e.
-    found-event _ bs e _ _ _ _ (at-loop-test .loop-test .taken) (at-byte .byte .ensures)
+    found-event _ _ _ _ _ (at-loop-test .loop-test .taken) (at-byte .byte .ensures)
     (at-subterms .subterms .ensures ∙ ap subterms (at-kind-of .kind-of .ensures)) (at-if1 .if1 .left)
-    (at-if2 .if2 .taken) (c .before .if3 .taken) (c .event-mark .ensures) refl
-    ∙ sym (at-loop .loop .inv bs e)
+    (at-if2 .if2 .taken) (c .before .if3 .taken) (c .event-end .ensures) refl
+    ∙ sym (at-loop .loop .inv)
 
 add-term : tie.Need-add-term Inv-loop μ-loop
 add-term c =
@@ -92,11 +83,10 @@ returns-3 c =
     let at-byte = at-kind-of .before in
     let at-loop-test = at-byte .before in
     let at-loop = at-loop-test .before in
-    λ bs e.
-    found-astray _ bs e _ _ _ _ (at-loop-test .loop-test .taken) (at-byte .byte .ensures)
+    found-astray _ _ _ _ _ (at-loop-test .loop-test .taken) (at-byte .byte .ensures)
     (at-subterms .subterms .ensures ∙ ap subterms (at-kind-of .kind-of .ensures)) (at-if1 .if1 .left)
     (c .before .if2 .left) (c .if4 .taken)
-    ∙ sym (at-loop .loop .inv bs e)
+    ∙ sym (at-loop .loop .inv)
 
 last-subterm-requires : tie.Need-last-subterm-requires Inv-loop μ-loop
 last-subterm-requires c κs =
@@ -120,32 +110,30 @@ loop-again c =
     let at-loop-test = at-byte .before in
     let at-loop = at-loop-test .before in
     let entry = at-loop .before .before in
-    λ bs e.
     let ks = entry .args .kinds .now in
     let xs = entry .args .after .now in
     let more = at-loop-test .loop-test .taken in
     let digit = at-byte .byte .ensures in
     let count = at-subterms .subterms .ensures ∙ ap subterms (at-kind-of .kind-of .ensures) in
-    let on : ℕ → ℕ = λ u. of.find ks xs u (drop (at-loop .loop .i + 1) bs) in
-    at-loop .loop .inv bs e
+    let on : ℕ → ℕ = λ u. of.find ks xs u (drop (at-loop .loop .i + 1) (read-bytes (entry .args .chars .now))) in
+    at-loop .loop .inv
     ∙ ⊎-elim
-    (λ w. found-first _ bs e ks xs _ _ more digit count (c .before .if1 .left) (w .0 .taken) (w .1 .left)
+    (λ w. found-first _ ks xs _ _ more digit count (c .before .if1 .left) (w .0 .taken) (w .1 .left)
     ∙ sym (ap on (w .2)))
-    (λ w. found-last _ bs e ks xs _ _ more digit count (c .before .if1 .left) (w .0 .left) (w .1 .left)
+    (λ w. found-last _ ks xs _ _ more digit count (c .before .if1 .left) (w .0 .left) (w .1 .left)
     (w .2 .ensures)
     ∙ sym (ap on (w .3)))
     (c .if2 .came)
 
-own-mark-requires : tie.Need-own-mark-requires Inv-loop μ-loop
-own-mark-requires c κs = search needs
+own-here-requires : tie.Need-own-here-requires Inv-loop μ-loop
+own-here-requires c κs = search needs
 
 returns-4 : tie.Need-returns-4 Inv-loop μ-loop
 returns-4 c =
     let at-loop = c .before .before in
-    λ bs e.
-    c .own-mark .ensures ∙ found-end _ bs e _ _ (at-loop .loop .term) (at-loop .loop .i)
+    c .own-here .ensures ∙ found-end _ _ _ (at-loop .loop .term) (at-loop .loop .i)
     (c .before .loop-test .left)
-    ∙ sym (at-loop .loop .inv bs e)
+    ∙ sym (at-loop .loop .inv)
 
 pub find-spec : {M : Type 1} → statement M
 find-spec =
@@ -158,8 +146,8 @@ find-spec =
     kind-of-requires
     subterms-requires
     returns
-    add-event-mark
-    event-mark-requires
+    add-event-end
+    event-end-requires
     returns-2
     add-term
     returns-3
@@ -167,5 +155,5 @@ find-spec =
     add-i
     loop-less
     loop-again
-    own-mark-requires
+    own-here-requires
     returns-4)

@@ -1,5 +1,4 @@
 -- `finding::mark_of` meets its contract, by the line's number and whether it is node 0's. Assumes nothing.
-use native.Mathlib.Omega.{arith}
 use Rattle.finding.proofs.Followed.{mark-other, mark-start, mark-found}
 use borrow.Author.Needs.{needs}
 use Rattle.finding.proofs.mark_of.Statement.{statement}
@@ -10,8 +9,7 @@ number-at-requires c κs = search needs
 
 returns : tie.Need-returns
 returns c =
-    λ bs e h.
-    mark-other _ bs e _ _ _ _ (c .before .number-at .ensures .0 bs e (omega arith)) (c .if1 .taken)
+    mark-other _ _ _ _ _ (c .before .number-at .ensures .0) (c .if1 .taken)
 
 start-mark-requires : tie.Need-start-mark-requires
 start-mark-requires c κs = search needs
@@ -20,10 +18,9 @@ returns-2 : tie.Need-returns-2
 returns-2 c =
     let at-if1 = c .before .before in
     let at-number-at = at-if1 .before in
-    λ bs e h.
-    mark-start _ bs e _ _ _ _ (at-number-at .number-at .ensures .0 bs e (omega arith))
+    mark-start _ _ _ _ _ (at-number-at .number-at .ensures .0)
     (at-if1 .if1 .left) (c .before .if2 .taken)
-    (c .start-mark .ensures bs e)
+    (c .start-mark .ensures)
 
 byte-at-requires : tie.Need-byte-at-requires
 byte-at-requires c κs = search needs
@@ -40,10 +37,9 @@ returns-3 c =
     let at-if2 = at-byte-at .before in
     let at-if1 = at-if2 .before in
     let at-number-at = at-if1 .before in
-    λ bs e h.
-    mark-found _ bs e _ _ _ _ (at-number-at .number-at .ensures .0 bs e (omega arith))
+    mark-found _ _ _ _ _ (at-number-at .number-at .ensures .0)
     (at-if1 .if1 .left) (at-if2 .if2 .left)
-    (at-byte-at .byte-at .ensures .0) (c .before .root-of .ensures) (c .find .ensures bs e)
+    (at-byte-at .byte-at .ensures .0) (c .before .root-of .ensures) (c .find .ensures)
 
 pub mark-of-spec : {M : Type 1} → statement M
 mark-of-spec =

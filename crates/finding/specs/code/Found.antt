@@ -1,23 +1,25 @@
 -- The mark of the literal at a place, by the columns of a table, whatever they hold: from a definition's root the path is
 -- followed digit by digit. 0 where there is no literal.
-use Prim.Native.Nat.{ℕ, suc, _+_, _*_}
+use Prim.Native.Nat.{ℕ, suc}
 use mathlib.Core.Bool.{_&&_}
 use mathlib.Core.List.{List, [], _∷_}
 use lib.Dec.{ltb, eqb}
 use Rattle.lines.specs.Line.{choose}
 use Rattle.kinds.specs.Kind.{subterms}
 use Rattle.frames.specs.TableFrame.{term-room, definition-room}
-use Rattle.places.specs.Place.{left-path}
+use Rattle.places.specs.Place.{Place, left-path}
+use Rattle.marks.specs.words.Mark.{start-mark, own-mark, event-mark}
 use Rattle.columns.specs.words.Columns.{look}
 use Rattle.rules.specs.Track.{Label}
 use Rattle.graphs.specs.Shape.{same}
 
--- the marks of term t: its own literal's, 0 where t is no term's number, and a prefix's event's
-abbrev pub own-mark : ℕ → ℕ
-own-mark t = choose (ltb t term-room) (2 * t + 2) 0
+-- node 0, where its place is path 0 of definition 00
+abbrev pub start-here : Place → ℕ
+start-here w = choose (eqb (w .definition) 0 && same (w .path) left-path) start-mark 0
 
-abbrev pub event-mark : ℕ → ℕ
-event-mark t = 2 * t + 3
+-- the own literal of term t, where there is such a term
+abbrev pub own-here : ℕ → ℕ
+own-here t = choose (ltb t term-room) (own-mark t) 0
 
 -- a prefix's event, where the path ends there
 unfoldable pub event-end : ℕ → List ℕ → ℕ
@@ -28,7 +30,7 @@ module _ (ks xs : List ℕ) where
   -- the mark at a path from term t on: of a term with n subterms, digit 1 leads to the first of two or a prefix's event, and
   -- digit 2 to the last
   unfoldable pub find : ℕ → List ℕ → ℕ
-  find t [] = own-mark t
+  find t [] = own-here t
   find t (x ∷ w) =
       choose (eqb (subterms (look term-room ks t)) 0) 0
       (choose (eqb x 1)
@@ -38,13 +40,12 @@ module _ (ks xs : List ℕ) where
       0))
 
   module _ (rs : List ℕ) where
-    -- the mark of node k: 1 for node 0 at path 0 of definition 00, and for any other its literal's; 0 where its line has another
-    -- number, or a place that is not its
+    -- the mark of node k: the start's for node 0, and for any other its literal's; 0 where its line has another number, or a
+    -- place that is not its
     unfoldable pub mark-of : ℕ → Label → ℕ
     mark-of k l =
         choose (eqb (l .reference) k)
-        (choose (eqb k 0)
-        (choose (eqb (l .place .definition) 0 && same (l .place .path) left-path) 1 0)
+        (choose (eqb k 0) (start-here (l .place))
         (find (look definition-room rs (l .place .definition)) (l .place .path)))
         0
 

@@ -1,8 +1,7 @@
 -- `frames::read_frame` meets its contract. The tag tells the shape, and the count of bytes whether
 -- the line has it. Assumes nothing.
-use mathlib.Core.Path.{refl}
-use Rattle.frames.proofs.Frames.{tagged, fits, misfits, opening, definition, closing, no-tag}
-use Rattle.frames.proofs.Frames.{byte-read, number-read}
+use mathlib.Core.Path.{refl, sym, _∙_}
+use Rattle.frames.proofs.Frames.{fits, misfits, opening, definition, closing, no-tag, number-behind}
 use borrow.Author.Needs.{needs}
 use Rattle.frames.proofs.read_frame.Statement.{statement}
 use Rattle.frames.proofs.read_frame.Tie as tie
@@ -11,33 +10,30 @@ byte-requires : tie.Need-byte-requires
 byte-requires c κs = search needs
 
 read-term-requires : tie.Need-read-term-requires
-read-term-requires c κs = search needs
+read-term-requires c κs = sym (c .before .byte .ensures) ∙ c .if1 .taken
 
 returns : tie.Need-returns
-returns c = λ bs stands.
-    let tag = tagged _ bs stands (c .before .before .byte .ensures) (c .before .if1 .taken) in
-    c .read-term .ensures bs stands tag
+returns c = c .read-term .ensures
 
 returns-2 : tie.Need-returns-2
-returns-2 c = λ bs stands.
+returns-2 c =
     let by-tag = c .before in
-    let tag = tagged _ bs stands (by-tag .before .before .byte .ensures) (by-tag .if2 .taken) in
-    misfits _ bs stands (definition bs refl) tag (c .if3 .taken)
+    misfits _ (definition _ refl) (sym (by-tag .before .before .byte .ensures) ∙ by-tag .if2 .taken) (c .if3 .taken)
 
 byte-requires-2 : tie.Need-byte-requires-2
 byte-requires-2 c κs = search needs
 
 returns-3 : tie.Need-returns-3
-returns-3 c = λ bs stands.
+returns-3 c =
     let by-tag = c .before .before in
-    let tag = tagged _ bs stands (by-tag .before .before .byte .ensures) (by-tag .if2 .taken) in
-    fits _ bs stands (definition bs (byte-read _ bs stands 1 (c .byte2 .ensures))) tag (c .before .if3 .left)
+    fits _ (definition _ (c .byte2 .ensures)) (sym (by-tag .before .before .byte .ensures) ∙ by-tag .if2 .taken)
+    (c .before .if3 .left)
 
 returns-4 : tie.Need-returns-4
-returns-4 c = λ bs stands.
+returns-4 c =
     let by-tag = c .before in
-    let tag = tagged _ bs stands (by-tag .before .before .before .byte .ensures) (by-tag .if4 .taken) in
-    misfits _ bs stands (closing bs refl) tag (c .if5 .taken)
+    misfits _ (closing _ refl) (sym (by-tag .before .before .before .byte .ensures) ∙ by-tag .if4 .taken)
+    (c .if5 .taken)
 
 sub-number : tie.Need-sub-number
 sub-number c = search needs
@@ -52,25 +48,24 @@ number-requires : tie.Need-number-requires
 number-requires c κs = search needs
 
 returns-5 : tie.Need-returns-5
-returns-5 c = λ bs stands.
+returns-5 c =
     let by-tag = c .before .before .before in
-    let tag = tagged _ bs stands (by-tag .before .before .before .byte .ensures) (by-tag .if4 .taken) in
-    let terms = number-read _ bs stands 1 (search needs) (c .number .ensures) in
-    fits _ bs stands (closing bs terms) tag (c .before .before .if5 .left)
+    let at-byte = by-tag .before .before .before in
+    let terms = number-behind (at-byte .before .before .args .chars .now) 1 (c .number .ensures) (search needs) in
+    fits _ (closing _ terms) (sym (at-byte .byte .ensures) ∙ by-tag .if4 .taken)
+    (c .before .before .if5 .left)
 
 returns-6 : tie.Need-returns-6
-returns-6 c = λ bs stands.
+returns-6 c =
     let first = c .before .before .before in
-    no-tag bs (byte-read _ bs stands 0 (first .before .byte .ensures)) (first .if1 .left)
-    (c .before .before .if2 .left)
-    (c .before .if4 .left)
+    no-tag _ (first .before .byte .ensures) (first .if1 .left) (c .before .before .if2 .left) (c .before .if4 .left)
     (c .if6 .taken)
 
 returns-7 : tie.Need-returns-7
-returns-7 c = λ bs stands.
+returns-7 c =
     let by-tag = c .before in
-    let tag = tagged _ bs stands (by-tag .before .before .before .before .byte .ensures) (by-tag .if6 .left) in
-    misfits _ bs stands (opening bs refl refl refl) tag (c .if7 .taken)
+    misfits _ (opening _ refl refl refl)
+    (sym (by-tag .before .before .before .before .byte .ensures) ∙ by-tag .if6 .left) (c .if7 .taken)
 
 byte-requires-3 : tie.Need-byte-requires-3
 byte-requires-3 c κs = search needs
@@ -82,13 +77,11 @@ byte-requires-5 : tie.Need-byte-requires-5
 byte-requires-5 c κs = search needs
 
 returns-8 : tie.Need-returns-8
-returns-8 c = λ bs stands.
+returns-8 c =
     let by-tag = c .before .before .before .before in
-    let tag = tagged _ bs stands (by-tag .before .before .before .before .byte .ensures) (by-tag .if6 .left) in
-    let edition = byte-read _ bs stands 1 (c .before .before .byte3 .ensures) in
-    let definitions = byte-read _ bs stands 2 (c .before .byte4 .ensures) in
-    let events = byte-read _ bs stands 3 (c .byte5 .ensures) in
-    fits _ bs stands (opening bs edition definitions events) tag (c .before .before .before .if7 .left)
+    fits _ (opening _ (c .before .before .byte3 .ensures) (c .before .byte4 .ensures) (c .byte5 .ensures))
+    (sym (by-tag .before .before .before .before .byte .ensures) ∙ by-tag .if6 .left)
+    (c .before .before .before .if7 .left)
 
 pub read-frame-spec : {M : Type 1} → statement M
 read-frame-spec =

@@ -3,7 +3,7 @@
 use mathlib.Core.Path.{refl}
 use native.Mathlib.Omega.{arith}
 use Rattle.kinds.proofs.KindLaws.{payload-most}
-use Rattle.frames.proofs.Frames.{fits, misfits, term, no-kind, no-such-kind, byte-read, number-read}
+use Rattle.frames.proofs.Frames.{fits, misfits, term, no-kind, no-such-kind, number-behind}
 use borrow.Author.Needs.{needs}
 use Rattle.frames.proofs.read_term.Statement.{statement}
 use Rattle.frames.proofs.read_term.Tie as tie
@@ -12,12 +12,12 @@ byte-requires : tie.Need-byte-requires
 byte-requires c κs = search needs
 
 returns : tie.Need-returns
-returns c = λ bs stands tag. no-kind bs (byte-read _ bs stands 1 (c .before .byte .ensures)) tag (c .if1 .taken)
+returns c = no-kind _ (c .before .byte .ensures) (c .before .before .before .pre) (c .if1 .taken)
 
 returns-2 : tie.Need-returns-2
-returns-2 c = λ bs stands tag.
-    let kind = byte-read _ bs stands 1 (c .before .before .byte .ensures) in
-    no-such-kind bs kind tag (c .before .if1 .left) (c .if2 .taken)
+returns-2 c =
+    let at-byte = c .before .before in
+    no-such-kind _ (at-byte .byte .ensures) (at-byte .before .before .pre) (c .before .if1 .left) (c .if2 .taken)
 
 payload-bytes-requires : tie.Need-payload-bytes-requires
 payload-bytes-requires c κs = search needs
@@ -29,12 +29,12 @@ add-want : tie.Need-add-want
 add-want c = search needs
 
 returns-3 : tie.Need-returns-3
-returns-3 c = λ bs stands tag.
+returns-3 c =
     let known = c .before .before in
-    let kind = byte-read _ bs stands 1 (known .before .before .byte .ensures) in
+    let at-byte = known .before .before in
     let width = c .before .payload-bytes .ensures in
-    misfits _ bs stands (term bs kind (known .before .if1 .left) (known .if2 .left) width refl) tag
-    (c .if3 .taken)
+    misfits _ (term _ (at-byte .byte .ensures) (known .before .if1 .left) (known .if2 .left) width refl)
+    (at-byte .before .before .pre) (c .if3 .taken)
 
 sub-number : tie.Need-sub-number
 sub-number c = search needs
@@ -49,15 +49,14 @@ number-requires : tie.Need-number-requires
 number-requires c κs = search needs
 
 returns-4 : tie.Need-returns-4
-returns-4 c = λ bs stands tag.
+returns-4 c =
     let known = c .before .before .before .before in
-    let read = known .before .before .byte in
-    let kind = byte-read _ bs stands 1 (read .ensures) in
+    let at-byte = known .before .before in
     let width = c .before .before .before .payload-bytes .ensures in
-    let few = payload-most (read .result) in
-    let payload = number-read _ bs stands 2 (omega (arith, width, few)) (c .number .ensures) in
-    fits _ bs stands (term bs kind (known .before .if1 .left) (known .if2 .left) width payload) tag
-    (c .before .before .if3 .left)
+    let few = payload-most (at-byte .byte .result) in
+    let payload = number-behind (at-byte .before .before .args .chars .now) 2 (c .number .ensures) (omega (arith, width, few)) in
+    fits _ (term _ (at-byte .byte .ensures) (known .before .if1 .left) (known .if2 .left) width payload)
+    (at-byte .before .before .pre) (c .before .before .if3 .left)
 
 pub read-term-spec : {M : Type 1} → statement M
 read-term-spec =

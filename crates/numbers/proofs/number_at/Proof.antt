@@ -1,6 +1,6 @@
 -- `numbers::number_at` meets its contract: two bytes make their number. Assumes nothing.
 use native.Mathlib.Omega.{arith}
-use Rattle.numbers.proofs.Laws.{number-read}
+use Rattle.lines.specs.Line.{number-from}
 use borrow.Author.Needs.{needs}
 use Rattle.numbers.proofs.number_at.Statement.{statement}
 use Rattle.numbers.proofs.number_at.Tie as tie
@@ -21,8 +21,9 @@ add-result : tie.Need-add-result
 add-result c = search needs
 
 returns : tie.Need-returns
+unfolding number-from
 returns c = (
-  λ bs e h. number-read _ bs e _ (c .before .byte-at .ensures .0) (c .byte-at2 .ensures .0) h,
+  omega (arith, c .before .byte-at .ensures .0, c .byte-at2 .ensures .0),
   omega (arith, c .before .byte-at .ensures .1, c .byte-at2 .ensures .1),
 )
 

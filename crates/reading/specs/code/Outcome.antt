@@ -6,23 +6,23 @@ use lib.ListN.{length, replicate}
 use lib.Seq.{sets}
 use Rattle.lines.specs.Line.{choose}
 use Rattle.rules.specs.Run.{node-room, arc-room, meeting-room}
-use Rattle.control.specs.words.Words.{track-words}
+use Rattle.control.specs.words.Words.{track-words, meetings-from}
 use Rattle.graphs.specs.Graph.{Graph}
 use Rattle.graphs.specs.Parsed.{Parsed, says, refused, parsed}
 use Rattle.links.specs.words.Columns.{flat, counts-of}
 use Rattle.walks.specs.code.Walked.{laid}
 use Rattle.finding.specs.code.Found.{marks-of}
-use Rattle.parsing.specs.declared.TrackOpened.{TrackOpened}
-use Rattle.parsing.specs.declared.TrackOpened.the-variants.{Track, Fails}
-use Rattle.parsing.specs.declared.Lines.{Lines}
-use Rattle.parsing.specs.declared.Lines.the-variants.{Goes, Stops}
+use Rattle.opening.specs.declared.TrackOpened.{TrackOpened}
+use Rattle.opening.specs.declared.TrackOpened.the-variants.{Track, Fails}
+use Rattle.opening.specs.declared.Lines.{Lines}
+use Rattle.opening.specs.declared.Lines.the-variants.{Goes, Stops}
 use Rattle.shapes.specs.code.Rules.{shaped}
 use Rattle.reading.specs.declared.Read.{Read}
 use Rattle.reading.specs.declared.Read.the-variants.{Accepted, Refused}
 
 -- the words of a graph's arcs and meetings
 abbrev pub track-of : Graph → List ℕ
-track-of g = sets (sets (replicate track-words 0) 0 (flat (g .arcs))) 16384 (flat (g .meetings))
+track-of g = sets (sets (replicate track-words 0) 0 (flat (g .arcs))) meetings-from (flat (g .meetings))
 
 module _ (ks ps xs rs : List ℕ) where
   unfoldable pub judged : Parsed → Parsed

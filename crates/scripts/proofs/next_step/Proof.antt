@@ -52,7 +52,8 @@ write-digits-requires c κs =
     let at-line = read .before .before in
     let found = sym (at-line .before .before .next-line .ensures) ∙ at-line .line .given .1 in
     let judged = c .before .before .judge .ensures in
-    step-line _ _ _ _ found _ (read .characters .ensures) _ judged (c .before .if1 .left) .few
+    let r = step-line _ _ _ _ found _ (read .characters .ensures) _ judged (c .before .if1 .left) in
+    (r .few, r .counted)
 
 returns-3 : tie.Need-returns-3
 returns-3 c =
@@ -61,7 +62,7 @@ returns-3 c =
     let found = sym (at-line .before .before .next-line .ensures) ∙ at-line .line .given .1 in
     let judged = c .before .before .before .judge .ensures in
     let r = step-line _ _ _ _ found _ (read .characters .ensures) _ judged (c .before .before .if1 .left) in
-    (r .told, c .write-digits .ensures (r .held) (r .stands) (r .counted) ∙ sym (ap (sets _ 0) (r .stored)))
+    (r .told, c .write-digits .ensures ∙ sym (ap (sets _ 0) (r .stored)))
 
 pub next-step-spec : {M : Type 1} → statement M
 next-step-spec =

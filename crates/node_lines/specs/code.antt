@@ -1,0 +1,2 @@
+-- Mirrors of code: `Nodes`, what the nodes' lines come to.
+pub mod Nodes

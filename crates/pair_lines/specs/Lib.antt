@@ -1,0 +1,2 @@
+-- A saved text's pairs. Below: `code`, mirrors of code.
+pub mod code

@@ -1,0 +1,2 @@
+-- Mirrors of code: `Pairs`, what the pairs' lines come to.
+pub mod Pairs

@@ -1,2 +1,0 @@
--- A saved text's lines. Below: `code`, mirrors of code.
-pub mod code

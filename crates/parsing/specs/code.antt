@@ -1,2 +1,0 @@
--- Mirrors of code: `Phases`, what each part of the line reading comes to.
-pub mod Phases
