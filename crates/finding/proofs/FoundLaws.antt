@@ -12,10 +12,11 @@ use lib.ListN.{length, getElem?}
 use lib.Dec.{eqb}
 use borrow.Author.Tests.{eqb-true, ne-eqb, lt-ltb}
 use Rattle.lines.specs.Line.{choose}
+use Rattle.lines.specs.Judging.{accepted}
 use Rattle.kinds.specs.Kind as Kind
 use Rattle.kinds.specs.Kind.{subterms}
 use Rattle.frames.specs.TableFrame.{term-room, definition-room}
-use Rattle.tables.specs.Table.{Sofar, judged, accepted}
+use Rattle.tables.specs.Table.{Sofar, judged}
 use Rattle.tables.specs.words.Columns.{kinds, afters, roots}
 use Rattle.terms.specs.Term.{Term, leaf, prefix, binary, size, definitions-of}
 use Rattle.terms.specs.words.Held.{HoldsTerm}

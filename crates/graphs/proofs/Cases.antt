@@ -7,6 +7,8 @@ use mathlib.Core.Path.{_≡_, refl}
 use mathlib.Core.List.{List, [], _∷_, map, _++_ as _++ᴸ_}
 use Rattle.lines.specs.Line.{digit, before, lines, pair, bytes, frame, number-from, character, hex, text}
 use Rattle.lines.specs.Line as Line
+use Rattle.lines.specs.Judging.{Judged, at-end, at-line, judged-from}
+use Rattle.lines.specs.Judging as Judging
 use Rattle.lines.proofs.Typed.{typed}
 use Rattle.sets.specs.EventSet.{member}
 use Rattle.terms.specs.Term.{Term, leaf, prefix, binary, call, SKIP, STOP, external, sequence, parallel, size}
@@ -18,14 +20,13 @@ use Rattle.rules.specs.Step.{one-side, by-side, same, both-sides, with-right, i
 use Rattle.rules.specs.Step.{then, step}
 use Rattle.rules.specs.Run.{State, start, after, over-room, Answer, accepted, refused, within-room, whole}
 use Rattle.rules.specs.Run.{answered, answer}
-use Rattle.graphs.specs.Graph.{graph-of, present, keep, heads, on-side, next, joins}
+use Rattle.graphs.specs.Graph.{Graph, graph-of, present, keep, heads, on-side, next, joins}
 use Rattle.graphs.specs.Walk.{among, walk, order}
 use Rattle.graphs.specs.Saved.{numbered, row, rows, rows-up, canonical, opening-frame, node-frame}
 use Rattle.graphs.specs.Saved.{pair-frame, frames, saved}
 use Rattle.graphs.specs.Saved as Saved
-use Rattle.graphs.specs.Parsed.{Parsed, says, frame-of, dues, ends-below, in-range, refusal}
-use Rattle.graphs.specs.Parsed.{first-refusal, taken, verdict, heard, rest, behind, from-first}
-use Rattle.graphs.specs.Parsed as Parsed
+use Rattle.graphs.specs.Parsed.{frame-of, dues, ends-below, in-range, refusal, first-refusal, taken}
+use Rattle.graphs.specs.Parsed.{whole-at, behind-first, stage-behind, number-met}
 use Rattle.graphs.specs.Shape.{every, in-order, in-definition, in-term, there, placed, splits-term}
 use Rattle.graphs.specs.Shape.{splits-literal, branches, event-of-term, event-of-literal, event-of}
 use Rattle.graphs.specs.Shape.{one-event, joins-events, before-first, ascends, upward, from-on, walked}
@@ -239,9 +240,9 @@ pub readings : List Reading
 readings = reads ++ᴸ by-lines ++ᴸ by-shape
 
 -- the number and line of a refusal
-numbered-line : Parsed → ℕ × ℕ
-numbered-line (says g) = (0, 0)
-numbered-line (Parsed.refused n k) = (n, k)
+numbered-line : Judged Graph → ℕ × ℕ
+numbered-line (Judging.accepted g) = (0, 0)
+numbered-line (Judging.refused n k) = (n, k)
 
 -- what the reader answers, and what it has to answer
 pub read-answer : Reading → ℕ × ℕ
@@ -256,8 +257,8 @@ unfolding
     typed with-line times stopping beside table-A track-A for-table for-A broken misshapen misplaced reads
     by-lines by-shape readings numbered-line read-answer expected-answer digit before lines pair bytes frame
     number-from size term-at shifted event-end literal-at begins under lookup present keep heads on-side next
-    joins among walk order frame-of dues ends-below in-range refusal first-refusal taken verdict heard rest
-    behind from-first Shape.same every in-order in-definition in-term there placed splits-term splits-literal
-    branches event-of-term event-of-literal event-of one-event joins-events Shape.before before-first ascends
-    upward from-on walked shaped judged
+    joins among walk order frame-of dues ends-below in-range refusal first-refusal taken at-end at-line
+    judged-from whole-at behind-first stage-behind number-met Shape.same every in-order in-definition in-term
+    there placed splits-term splits-literal branches event-of-term event-of-literal event-of one-event
+    joins-events Shape.before before-first ascends upward from-on walked shaped judged
 cases-read = refl

@@ -6,21 +6,23 @@ use Prim.Native.Nat.{ℕ, zero, suc, _+_, _≤_, _<_}
 use mathlib.Core.Path.{_≡_, refl, ap, _∙_}
 use mathlib.Core.Bool.{Bool, true, false}
 use mathlib.Core.List.{List, [], _∷_, _++_, map, foldl}
-use mathlib.Core.Option.{Option, none, some}
+use mathlib.Core.Option.{none, some}
 use native.Mathlib.Omega.{arith}
 use lib.ListN.{length, replicate}
-use lib.Dec.{leb, ltb, eqb}
-use borrow.Author.Tests.{eqb-true, ltb-true, leb-true}
-use Rattle.lines.specs.Line.{choose, Raw, frame, Bytes, byte-first, Frames, no-frames, frame-first}
+use lib.Dec.{leb, ltb}
+use borrow.Author.Tests.{ltb-true, leb-true}
+use Rattle.lines.specs.Line.{Raw, frame, Bytes, byte-first, Frames, no-frames, frame-first}
+use Rattle.lines.specs.Judging.{Judged, accepted, judged-from}
 use Rattle.lines.proofs.Digits.{both}
+use Rattle.lines.proofs.Judging.{ends-whole, line-taken, accepted-whole, accepted-line}
 use Rattle.lines.proofs.Written.{read-frames}
 use Rattle.frames.specs.TableFrame.{path-room}
 use Rattle.places.specs.Place.{Place}
 use Rattle.rules.specs.Track.{Label, Pair}
 use Rattle.graphs.specs.Graph.{Graph}
 use Rattle.graphs.specs.Parsed.{Frame, node, arc, meeting, last, wrong, ends-below, in-range, unless}
-use Rattle.graphs.specs.Parsed.{Due, a-node, an-arc, a-meeting, the-last, refusal, taken, verdict}
-use Rattle.graphs.specs.Parsed.{heard, Parsed, says, refused, rest}
+use Rattle.graphs.specs.Parsed.{Due, a-node, an-arc, a-meeting, the-last, refusal, taken, frame-of}
+use Rattle.graphs.specs.Parsed.{due, whole-at, number-met, stage-behind, track-lines}
 use Rattle.graphs.proofs.FrameBytes.{spelt, spelt-first, spelt-frame, frame-spelt, Short, Sized}
 use Rattle.graphs.proofs.FrameBytes.{sized-opening, sized-node, sized-arc, sized-meeting, sized-last}
 
@@ -108,37 +110,20 @@ fitting-sized d n l m (arc-fits h) = sized-arc (ends-short n m h)
 fitting-sized d n l m (meeting-fits h) = sized-meeting (ends-short n m h)
 fitting-sized d n l m last-fits = sized-last
 
--- a line that meets no refusal is the frame that it is taken for, written
-pub record Heard (r : Frame → ℕ) (o : Option (List ℕ)) : Type 0 where
-  pub sized : Sized (heard o)
-  pub written : o ≡ some (spelt (heard o))
-  pub passes : r (heard o) ≡ 0
+-- a line that meets no refusal is a frame of its width, written
+pub record Heard (l : Raw) (f : Frame) : Type 0 where
+  pub sized : Sized f
+  pub written : frame l ≡ some (spelt f)
 
-module _ (l : Raw) (r : Frame → ℕ) (wrong-met : r wrong ≡ 2) where
-  line-heard : verdict r (frame l) ≡ 0 → Heard r (frame l)
-  unfolding verdict heard
-  line-heard e = go (frame l) refl e
-    where
-      bytes-of : (bs : List ℕ) → Frames (bs ∷ []) → Bytes bs
-      bytes-of (b ∷ bs) (frame-first h t) = h
-
-      go : (o : Option (List ℕ)) → frame l ≡ o → verdict r o ≡ 0 → Heard r o
-      go none i e = absurd (omega arith)
-      go (some bs) i e =
-          let h = bytes-of bs (read-frames (bs ∷ []) (l ∷ []) (rw i)) in
-          let s = frame-spelt h (λ w. let z : _≡_ {A = ℕ} 0 2 = cc in omega arith) in
-          record { sized = s .sized; written = ap some (s .same); passes = e }
-
-  -- and where a text is read on behind a line, the line met none
-  pub read-on : (p : Parsed) (k : ℕ) {g : Graph}
-      → choose (eqb (verdict r (frame l)) 0) p (refused (verdict r (frame l)) k) ≡ says g
-      → Heard r (frame l) × (p ≡ says g)
-  read-on p k {g} e = go (eqb (verdict r (frame l)) 0) refl e
-    where
-      go : (b : Bool) → eqb (verdict r (frame l)) 0 ≡ b → choose b p (refused (verdict r (frame l)) k) ≡ says g
-          → Heard r (frame l) × (p ≡ says g)
-      go true t e = (line-heard (eqb-true (verdict r (frame l)) 0 t), e)
-      go false t e = let z : _≡_ {A = ℕ} 0 1 = cc in absurd (omega arith)
+pub line-heard : (l : Raw) {bs : List ℕ} → frame l ≡ some bs → (r : Frame → ℕ) → r wrong ≡ 2
+    → r (frame-of bs) ≡ 0 → Heard l (frame-of bs)
+line-heard l {bs} i r wrong-met none-met =
+    let h = bytes-of bs (read-frames (bs ∷ []) (l ∷ []) (rw i)) in
+    let s = frame-spelt h (λ w. let z : _≡_ {A = ℕ} 0 2 = cc in omega arith) in
+    record { sized = s .sized; written = i ∙ ap some (s .same) }
+  where
+    bytes-of : (bs : List ℕ) → Frames (bs ∷ []) → Bytes bs
+    bytes-of (b ∷ bs) (frame-first h t) = h
 
 -- frames are those that are due, one by one
 pub data Fitted (d n : ℕ) : List Due → List Frame → Type 0 where
@@ -166,36 +151,49 @@ refusal-wrong d n a-meeting = refl
 refusal-wrong d n the-last = refl
 
 module _ (d n : ℕ) where
+  -- what is judged of the lines from line k on, by what is due and the graph so far
+  abbrev pub rest : List Due → Graph → ℕ → List Raw → Judged Graph
+  rest xs g k ls = judged-from (track-lines d) (due n xs g) k ls
+
   -- lines that are read are frames that are due
-  pub rest-told : (xs : List Due) (g h : Graph) (k : ℕ) (ls : List Raw) → rest d n xs g k ls ≡ says h
+  pub rest-told : (xs : List Due) (g h : Graph) (k : ℕ) (ls : List Raw) → rest xs g k ls ≡ accepted h
       → Told d n xs g ls h
-  unfolding rest
-  rest-told [] g h k [] e = record { told = []; written = refl; fitted = fitted-none; graph = cc }
-  rest-told [] g h k (l ∷ ls) e = let z : _≡_ {A = ℕ} 0 1 = cc in absurd (omega arith)
-  rest-told (x ∷ xs) g h k [] e = let z : _≡_ {A = ℕ} 0 1 = cc in absurd (omega arith)
+  unfolding whole-at number-met stage-behind
+  rest-told [] g h k [] e =
+      let says = accepted-whole (track-lines d) (due n [] g) k e in
+      record { told = []; written = refl; fitted = fitted-none; graph = cc }
+  rest-told [] g h k (l ∷ ls) e =
+      let late = accepted-line (track-lines d) (due n [] g) k l ls e .none-met in
+      absurd (omega (arith, late))
+  rest-told (x ∷ xs) g h k [] e =
+      let early : none ≡ some h = accepted-whole (track-lines d) (due n (x ∷ xs) g) k e in
+      let z : _≡_ {A = ℕ} 0 1 = cc in absurd (omega arith)
   rest-told (x ∷ xs) g h k (l ∷ ls) e =
-      let next = taken g (heard (frame l)) in
-      let o = read-on l (refusal d n x) (refusal-wrong d n x) (rest d n xs next (k + 1) ls) k e in
-      let r = rest-told xs next h (k + 1) ls (o .1) in
+      let t = accepted-line (track-lines d) (due n (x ∷ xs) g) k l ls e in
+      let f = frame-of (t .bytes) in
+      let o = line-heard l (t .framed) (refusal d n x) (refusal-wrong d n x) (t .none-met) in
+      let r = rest-told xs (taken g f) h (k + 1) ls (t .then) in
       record {
-        told = heard (frame l) ∷ r .told;
-        written = cc (o .0 .written, r .written);
-        fitted = fitted-first (passes-fitting d n x (o .0 .sized) (o .0 .passes)) (r .fitted);
+        told = f ∷ r .told;
+        written = cc (o .written, r .written);
+        fitted = fitted-first (passes-fitting d n x (o .sized) (t .none-met)) (r .fitted);
         graph = r .graph;
       }
 
   -- a written frame that is due is taken
   rest-first : {x : Due} {f : Frame} → Fitting d n x f → Sized f → (xs : List Due) (g : Graph) (k : ℕ) (l : Raw)
       (ls : List Raw) → frame l ≡ some (spelt f)
-      → rest d n (x ∷ xs) g k (l ∷ ls) ≡ rest d n xs (taken g f) (k + 1) ls
-  unfolding rest verdict heard
-  rest-first {x} {f} fit s xs g k l ls e = rw (e, spelt-frame s, fitting-passes d n fit)
+      → rest (x ∷ xs) g k (l ∷ ls) ≡ rest xs (taken g f) (k + 1) ls
+  unfolding number-met stage-behind
+  rest-first {x} {f} fit s xs g k l ls e =
+      line-taken (track-lines d) (due n (x ∷ xs) g) k l ls e (rw (spelt-frame s) (fitting-passes d n fit))
+      ∙ ap (λ (h : Frame). rest xs (taken g h) (k + 1) ls) (spelt-frame s)
 
   -- and lines of frames that are due are read as what they say
   pub told-rest : d ≤ 256 → n ≤ 65536 → {xs : List Due} {fs : List Frame} → Fitted d n xs fs
-      → (g : Graph) (k : ℕ) (ls : List Raw) → Lines ls fs → rest d n xs g k ls ≡ says (foldl taken g fs)
-  unfolding rest
-  told-rest i j fitted-none g k [] e = refl
+      → (g : Graph) (k : ℕ) (ls : List Raw) → Lines ls fs → rest xs g k ls ≡ accepted (foldl taken g fs)
+  unfolding whole-at
+  told-rest i j fitted-none g k [] e = ends-whole (track-lines d) (due n [] g) k refl
   told-rest i j fitted-none g k (l ∷ ls) e = let z : _≡_ {A = ℕ} 0 1 = cc in absurd (omega arith)
   told-rest i j (fitted-first fit t) g k [] e = let z : _≡_ {A = ℕ} 0 1 = cc in absurd (omega arith)
   told-rest i j (fitted-first {f = f} {xs = xs} fit t) g k (l ∷ ls) e =

@@ -12,6 +12,7 @@ use native.Mathlib.Omega.{arith}
 use lib.ListN.{length, getElem?}
 use lib.Dec.{ltb}
 use Rattle.lines.specs.Line.{choose, two, text, lines}
+use Rattle.lines.specs.Judging.{Judged, accepted, refused}
 use Rattle.terms.specs.Term.{Term, Shallow}
 use Rattle.rules.specs.Track.{lookup}
 use Rattle.rules.specs.Run.{State, start, Reached}
@@ -19,7 +20,7 @@ use Rattle.graphs.specs.Graph.{Graph, graph-of, present, labelled, keep}
 use Rattle.graphs.specs.Walk.{among, walk, order}
 use Rattle.graphs.specs.Saved.{numbered, rows, rows-up, canonical, opening-frame, frames, graph-text}
 use Rattle.graphs.specs.Saved.{saved}
-use Rattle.graphs.specs.Parsed.{Parsed, says, refused, parsed}
+use Rattle.graphs.specs.Parsed.{parsed}
 use Rattle.graphs.specs.Shape.{shaped, judged, read}
 use Rattle.graphs.proofs.Walking.{Distinct}
 use Rattle.graphs.proofs.Ordered.{order-distinct, order-labelled, run-reaches}
@@ -35,13 +36,13 @@ use Rattle.graphs.proofs.Refusals.{parsed-refused, judged-refused}
 use Rattle.graphs.specs.Refusal.{Refusal}
 
 -- a text that is read says a graph of the reader's shape
-pub read-parts : (ts : List Term) (r : Parsed) (g : Graph) → judged ts r ≡ says g
-    → (r ≡ says g) × (shaped ts g ≡ true)
+pub read-parts : (ts : List Term) (r : Judged Graph) (g : Graph) → judged ts r ≡ accepted g
+    → (r ≡ accepted g) × (shaped ts g ≡ true)
 unfolding judged
-read-parts ts (says h) g e = go (shaped ts h) refl e
+read-parts ts (accepted h) g e = go (shaped ts h) refl e
   where
-    go : (b : Bool) → shaped ts h ≡ b → choose b (says h) (refused 13 0) ≡ says g
-        → (says h ≡ says g) × (shaped ts g ≡ true)
+    go : (b : Bool) → shaped ts h ≡ b → choose b (accepted h) (refused 13 0) ≡ accepted g
+        → (accepted h ≡ accepted g) × (shaped ts g ≡ true)
     go true s e = let is : h ≡ g = cc in (e, sym (ap (shaped ts) is) ∙ s)
     go false s e = let z : _≡_ {A = ℕ} 0 1 = cc in absurd (omega arith)
 read-parts ts (refused n k) g e = let z : _≡_ {A = ℕ} 0 1 = cc in absurd (omega arith)
@@ -49,13 +50,13 @@ read-parts ts (refused n k) g e = let z : _≡_ {A = ℕ} 0 1 = cc in absurd (om
 -- "A saved track reads back as its graph"
 pub saved-reads-back : (ts : List Term) {s : State} → Reached ts s
     → ((k : ℕ) (t : Term) → getElem? ts k ≡ some t → Shallow 0 t) → 0 < length ts → length ts ≤ 256
-    → read ts (saved (graph-of s)) ≡ says (canonical (graph-of s))
+    → read ts (saved (graph-of s)) ≡ accepted (canonical (graph-of s))
 unfolding judged
 saved-reads-back ts p shallow some-first few =
     rw (text-says (run-fits ts p shallow some-first few), run-shaped ts p)
 
 -- "and writes again as the same text", whatever the text is: the graph that is read is its own canonical graph
-pub read-writes-again : (ts : List Term) → length ts ≤ 256 → (t : List ℕ) (g : Graph) → read ts t ≡ says g
+pub read-writes-again : (ts : List Term) → length ts ≤ 256 → (t : List ℕ) (g : Graph) → read ts t ≡ accepted g
     → (saved g ≡ t) × (graph-text g ≡ t) × (canonical g ≡ g)
 read-writes-again ts few t g e =
     let (said, shape) = read-parts ts (parsed (length ts) t) g e in
@@ -69,13 +70,13 @@ pub read-refusals : (ts : List Term) (t : List ℕ) (n k : ℕ) → read ts t �
 read-refusals ts t n k e = judged-refused ts (parsed (length ts) t) n k (parsed-refused (length ts) n k (lines t)) e
 
 -- and every text ends so
-pub read-ends : (ts : List Term) (t : List ℕ) → ((g : Graph) × (read ts t ≡ says g))
+pub read-ends : (ts : List Term) (t : List ℕ) → ((g : Graph) × (read ts t ≡ accepted g))
     ⊎ ((n : ℕ) × (k : ℕ) × (read ts t ≡ refused n k) × Refusal n k)
 read-ends ts t = go (read ts t) refl
   where
-    go : (r : Parsed) → read ts t ≡ r → ((g : Graph) × (read ts t ≡ says g))
+    go : (r : Judged Graph) → read ts t ≡ r → ((g : Graph) × (read ts t ≡ accepted g))
         ⊎ ((n : ℕ) × (k : ℕ) × (read ts t ≡ refused n k) × Refusal n k)
-    go (says g) e = inl (g, e)
+    go (accepted g) e = inl (g, e)
     go (refused n k) e = inr (n, k, e, read-refusals ts t n k e)
 
 -- "The text says what the track is: nodes, places, arcs, meetings": the numbers of the graph whose text is the

@@ -6,14 +6,16 @@ use Prim.Native.Nat.{ℕ, _+_, _*_, _≤_}
 use mathlib.Core.Path.{_≡_, refl, ap, _∙_}
 use mathlib.Core.Bool.{_&&_}
 use mathlib.Core.List.{List, [], _∷_, _++_, map, map-append, map-map, foldl, foldl-append, append-nil}
-use mathlib.Core.Option.{some}
+use mathlib.Core.Option.{none, some}
 use native.Mathlib.Omega.{arith}
 use lib.ListN.{length, take, replicate, length-append, length-map}
 use lib.Seq.{append-snoc}
 use lib.Dec.{leb, eqb}
 use borrow.Author.Tests.{eqb-true, eq-eqb, leb-true, le-leb}
 use Rattle.lines.specs.Line.{Raw, frame, lines, two, hex, text, LF}
+use Rattle.lines.specs.Judging.{accepted, judged-from}
 use Rattle.lines.proofs.Digits.{both}
+use Rattle.lines.proofs.Judging.{line-taken, accepted-whole, accepted-line}
 use Rattle.lines.proofs.Written.{frames-back, text-back}
 use Rattle.rules.specs.Track.{Label, Pair}
 use Rattle.rules.specs.Run.{node-room, arc-room, meeting-room}
@@ -21,13 +23,13 @@ use Rattle.graphs.specs.Graph.{Graph}
 use Rattle.graphs.specs.Saved.{opening-frame, node-frame, pair-frame, arc-code, meeting-code}
 use Rattle.graphs.specs.Saved.{last-frame, frames, graph-text}
 use Rattle.graphs.specs.Parsed.{Frame, opening, node, arc, meeting, last, wrong, dues, first-refusal}
-use Rattle.graphs.specs.Parsed.{a-node, an-arc, a-meeting, the-last, taken, nothing, says, verdict}
-use Rattle.graphs.specs.Parsed.{heard, behind, from-first, parsed}
+use Rattle.graphs.specs.Parsed.{a-node, an-arc, a-meeting, the-last, taken, nothing, at-start}
+use Rattle.graphs.specs.Parsed.{whole-at, behind-first, stage-behind, number-met, track-lines, parsed}
 use Rattle.graphs.proofs.FrameBytes.{spelt, spelt-first, spelt-frame, Sized, sized-opening, sized-node}
 use Rattle.graphs.proofs.FrameBytes.{sized-arc, sized-meeting, sized-last}
 use Rattle.graphs.proofs.DueLines.{Fitting, node-fits, arc-fits, meeting-fits, last-fits, Fitted}
 use Rattle.graphs.proofs.DueLines.{fitted-none, fitted-first, fitted-append, fitted-split}
-use Rattle.graphs.proofs.DueLines.{fitted-frames, run-fits, run-of, Lines, read-on, rest-told}
+use Rattle.graphs.proofs.DueLines.{fitted-frames, run-fits, run-of, Lines, line-heard, rest-told}
 use Rattle.graphs.proofs.DueLines.{told-rest, unless-none}
 pub use Rattle.graphs.proofs.DueLines.{Each, each-none, each-first, LabelFits, PairFits}
 
@@ -186,18 +188,21 @@ graph-opens h = opens refl (h .labels-room) (h .arcs-room) (h .meetings-room)
 
 -- the lines of a graph's frames are read as the graph
 first-says : {d : ℕ} {g : Graph} → Fits d g → (ls : List Raw) → Lines ls (opening-of g ∷ body g)
-    → from-first d ls ≡ says g
-unfolding from-first behind verdict heard
+    → judged-from (track-lines d) at-start 1 ls ≡ accepted g
+unfolding behind-first stage-behind number-met
 first-says h [] e = let z : _≡_ {A = ℕ} 0 1 = cc in absurd (omega arith)
 first-says {d} {g} h (l ∷ ls) e =
     let n = length (g .labels) in
     let room : n ≤ 65536 = omega (arith, h .labels-room) in
     let written : frame l ≡ some (spelt (opening-of g)) = cc in
-    rw (written, spelt-frame (opens-sized (graph-opens h)), opens-passes (graph-opens h))
-    (told-rest d n (h .definitions-fit) room (body-fitted h) nothing 2 ls (cc) ∙ ap says (body-says g))
+    let is = spelt-frame (opens-sized (graph-opens h)) in
+    line-taken (track-lines d) at-start 1 l ls written (rw is (opens-passes (graph-opens h)))
+    ∙ ap (λ (f : Frame). judged-from (track-lines d) (behind-first f) 2 ls) is
+    ∙ told-rest d n (h .definitions-fit) room (body-fitted h) nothing 2 ls (cc)
+    ∙ ap accepted (body-says g)
 
 -- a graph's text is read as the graph
-pub text-says : {d : ℕ} {g : Graph} → Fits d g → parsed d (graph-text g) ≡ says g
+pub text-says : {d : ℕ} {g : Graph} → Fits d g → parsed d (graph-text g) ≡ accepted g
 text-says {d} {g} h =
     let n = length (g .labels) in
     let room : n ≤ 65536 = omega (arith, h .labels-room) in
@@ -212,22 +217,25 @@ text-one {d} p q e = let r = text-says p in let s = text-says q in cc (ap (parse
 module _ (d : ℕ) (few : d ≤ 256) where
   -- lines that are read, line 1 within its rooms, are those of the graph that is read
   behind-read : {f : Frame} → Opens f → (l : Raw) → frame l ≡ some (spelt f) → (ls : List Raw) (g : Graph)
-      → behind d f ls ≡ says g → Read d (l ∷ ls) g
-  unfolding behind
+      → judged-from (track-lines d) (behind-first f) 2 ls ≡ accepted g → Read d (l ∷ ls) g
+  unfolding behind-first
   behind-read (opens {n = n} {a = a} {s = s} h i j k) l w ls g e =
       let r = rest-told d n (dues n a s) nothing g 2 ls e in
       let b = body-of d n a s few i j k (r .told) (r .fitted) in
       let same : g ≡ b .graph = r .graph ∙ ap (foldl taken nothing) (b .follows) ∙ body-says (b .graph) in
       rw same (record { written = cc (r .written); fits = b .fits })
 
-  first-read : (ls : List Raw) (g : Graph) → from-first d ls ≡ says g → Read d ls g
-  unfolding from-first
-  first-read [] g e = let z : _≡_ {A = ℕ} 0 1 = cc in absurd (omega arith)
+  first-read : (ls : List Raw) (g : Graph) → judged-from (track-lines d) at-start 1 ls ≡ accepted g → Read d ls g
+  unfolding whole-at stage-behind number-met
+  first-read [] g e =
+      let early : none ≡ some g = accepted-whole (track-lines d) at-start 1 e in
+      let z : _≡_ {A = ℕ} 0 1 = cc in absurd (omega arith)
   first-read (l ∷ ls) g e =
-      let o = read-on l first-refusal first-wrong (behind d (heard (frame l)) ls) 1 e in
-      behind-read (passes-opens (o .0 .sized) (o .0 .passes)) l (o .0 .written) ls g (o .1)
+      let t = accepted-line (track-lines d) at-start 1 l ls e in
+      let o = line-heard l (t .framed) first-refusal first-wrong (t .none-met) in
+      behind-read (passes-opens (o .sized) (t .none-met)) l (o .written) ls g (t .then)
 
-  module _ (t : List ℕ) {g : Graph} (e : parsed d t ≡ says g) where
+  module _ (t : List ℕ) {g : Graph} (e : parsed d t ≡ accepted g) where
     -- the lines of a text that is read are the frames of the graph that it says
     pub says-lines : map frame (lines t) ≡ map some (frames g)
     says-lines = first-read (lines t) g e .written ∙ ap (map some) (frames-spelt g)

@@ -5,7 +5,8 @@ use mathlib.Core.List.{List, [], _∷_, _++_}
 use mathlib.Core.Option.{Option, none, some}
 use lib.ListN.{length, getD, drop, replicate}
 use lib.Dec.{leb, ltb, eqb}
-use Rattle.lines.specs.Line.{choose, number-at, Raw, frame, lines}
+use Rattle.lines.specs.Line.{choose, number-at, lines}
+use Rattle.lines.specs.Judging.{Judged, Judging, judged-from}
 use Rattle.frames.specs.TableFrame.{path-room}
 use Rattle.places.specs.Place.{Place}
 use Rattle.rules.specs.Track.{Pair, pair}
@@ -118,49 +119,44 @@ taken g wrong = g
 abbrev pub nothing : Graph
 nothing = record { labels = []; arcs = []; meetings = [] }
 
--- a text: the graph that it says, or a refusal's number and line
-pub data Parsed : Type 0 where
-  says : Graph → Parsed
-  refused : ℕ → ℕ → Parsed
+-- how far the lines of a saved text have come: before line 1, or, in a track of n nodes, by what is due and the graph
+-- so far
+pub data Stage : Type 0 where
+  at-start : Stage
+  due : (n : ℕ) → List Due → Graph → Stage
 
--- the number that a line meets: 1 where it is no line
-unfoldable pub verdict : (Frame → ℕ) → Option (List ℕ) → ℕ
-verdict r none = 1
-verdict r (some bs) = r (frame-of bs)
+-- what the text says, once nothing is due
+unfoldable pub whole-at : Stage → Option Graph
+whole-at at-start = none
+whole-at (due n [] g) = some g
+whole-at (due n (x ∷ xs) g) = none
 
--- what a line is taken for
-unfoldable pub heard : Option (List ℕ) → Frame
-heard none = wrong
-heard (some bs) = frame-of bs
+-- behind line 1, by its counts
+unfoldable pub behind-first : Frame → Stage
+behind-first (opening e n a s) = due n (dues n a s) nothing
+behind-first (node i w) = at-start
+behind-first (arc a) = at-start
+behind-first (meeting a) = at-start
+behind-first last = at-start
+behind-first wrong = at-start
+
+-- how far the lines have come behind one that meets no number
+unfoldable pub stage-behind : Stage → List ℕ → Stage
+stage-behind at-start bs = behind-first (frame-of bs)
+stage-behind (due n [] g) bs = due n [] g
+stage-behind (due n (x ∷ xs) g) bs = due n xs (taken g (frame-of bs))
 
 module _ (d : ℕ) where
-  -- the lines from line k on, of a track of n nodes, by what is due; an early end is told at the line after the last, and
-  -- behind the last line any line is a frame out of place
-  unfoldable pub rest : ℕ → List Due → Graph → ℕ → List Raw → Parsed
-  rest n [] g k [] = says g
-  rest n [] g k (l ∷ ls) = refused (verdict (λ f. 2) (frame l)) k
-  rest n (x ∷ xs) g k [] = refused 2 k
-  rest n (x ∷ xs) g k (l ∷ ls) =
-      choose (eqb (verdict (refusal d n x) (frame l)) 0)
-      (rest n xs (taken g (heard (frame l))) (k + 1) ls)
-      (refused (verdict (refusal d n x) (frame l)) k)
+  -- the number that a line's bytes meet; behind the last line any are a frame out of place
+  unfoldable pub number-met : Stage → List ℕ → ℕ
+  number-met at-start bs = first-refusal (frame-of bs)
+  number-met (due n [] g) bs = 2
+  number-met (due n (x ∷ xs) g) bs = refusal d n x (frame-of bs)
 
-  -- behind line 1, by its counts
-  unfoldable pub behind : Frame → List Raw → Parsed
-  behind (opening e n a s) ls = rest n (dues n a s) nothing 2 ls
-  behind (node i w) ls = refused 2 1
-  behind (arc a) ls = refused 2 1
-  behind (meeting a) ls = refused 2 1
-  behind last ls = refused 2 1
-  behind wrong ls = refused 2 1
+  -- how the lines of a saved text are judged, for a table of d definitions
+  abbrev pub track-lines : Judging Stage Graph
+  track-lines = record { whole = whole-at; number = number-met; behind = stage-behind }
 
-  -- all lines
-  unfoldable pub from-first : List Raw → Parsed
-  from-first [] = refused 2 1
-  from-first (l ∷ ls) =
-      choose (eqb (verdict first-refusal (frame l)) 0) (behind (heard (frame l)) ls)
-      (refused (verdict first-refusal (frame l)) 1)
-
-  -- a saved text, for a table of d definitions
-  abbrev pub parsed : List ℕ → Parsed
-  parsed text = from-first (lines text)
+  -- what a saved text says
+  abbrev pub parsed : List ℕ → Judged Graph
+  parsed text = judged-from track-lines at-start 1 (lines text)

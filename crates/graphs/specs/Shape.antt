@@ -7,12 +7,13 @@ use mathlib.Core.Option.{Option, none, some}
 use lib.ListN.{length, getElem?}
 use lib.Dec.{leb, ltb, eqb}
 use Rattle.lines.specs.Line.{choose}
+use Rattle.lines.specs.Judging.{Judged, accepted, refused}
 use Rattle.terms.specs.Term.{Term, leaf, prefix, binary, internal, external, sequence, parallel}
 use Rattle.places.specs.Place.{Place, left-path, Literal, own, event, literal-at, term-at}
 use Rattle.rules.specs.Track.{Label, Pair, lookup}
 use Rattle.graphs.specs.Graph.{Graph, keep, targets, side}
 use Rattle.graphs.specs.Walk.{order}
-use Rattle.graphs.specs.Parsed.{Parsed, says, refused, parsed}
+use Rattle.graphs.specs.Parsed.{parsed}
 
 -- two lists of numbers are the same
 unfoldable pub same : List ℕ → List ℕ → Bool
@@ -156,9 +157,9 @@ shaped ts g =
     && (every upward (g .meetings) && every (joins-events ts g) (g .meetings)))))))
 
 -- what a saved text is against a table: its graph, or a refusal's number and line
-unfoldable pub judged : List Term → Parsed → Parsed
-judged ts (says g) = choose (shaped ts g) (says g) (refused 13 0)
+unfoldable pub judged : List Term → Judged Graph → Judged Graph
+judged ts (accepted g) = choose (shaped ts g) (accepted g) (refused 13 0)
 judged ts (refused n k) = refused n k
 
-abbrev pub read : List Term → List ℕ → Parsed
+abbrev pub read : List Term → List ℕ → Judged Graph
 read ts text = judged ts (parsed (length ts) text)

@@ -6,12 +6,13 @@ use mathlib.Core.Path.{_≡_, refl}
 use mathlib.Core.List.{List, [], _∷_, map, _++_ as _++ᴸ_}
 use Rattle.lines.specs.Line.{digit, before, lines, pair, bytes, frame, characters, number-from, character}
 use Rattle.lines.specs.Line.{hex, text, two}
+use Rattle.lines.specs.Judging.{at-end, at-line, judged-from}
 use Rattle.lines.proofs.Typed.{typed}
 use Rattle.scripts.specs.Script.{well-formed, all-digits, in-range, asked}
 use Rattle.kinds.specs.Kind.{known, payload-bytes, subterms}
 use Rattle.sets.specs.EventSet.{member}
 use Rattle.frames.specs.TableFrame.{frame-of, limit, longest, refusal, first-refusal, closes}
-use Rattle.tables.specs.Table.{next-due, seen, taken, held, verdict, behind, rest, from-first, judged}
+use Rattle.tables.specs.Table.{next-due, seen, taken, whole-at, number-met, stage-behind, judged}
 use Rattle.terms.specs.Term.{leaf-of, operator-of, grown, trees}
 use Rattle.places.specs.Place.{begins, under}
 use Rattle.rules.specs.Process.{joined, untouched, right-side, cells}
@@ -146,13 +147,13 @@ pub cases-listed
 unfolding
     typed case table-A listed-A table-C track-C table-K cases stopped-A further digit before lines pair bytes
     frame characters number-from character hex text well-formed all-digits in-range asked known payload-bytes
-    subterms member frame-of limit longest refusal first-refusal closes next-due seen taken held verdict
-    behind rest from-first judged leaf-of operator-of grown trees begins under joined untouched right-side
-    cells lookup labelled prefixed first-eval around each-with meet jointly carried started leads parents
-    ended one-side by-side same both-sides with-right in-sequence by-left at-Ω then step after over-room
-    Run.within-room whole Run.answered answer leaf-offers offers-✓ offers-τ offers-event offers-some status
-    digit-of with-digit answered present keep heads on-side next joins among walk order placed numbered row
-    rows rows-up canonical two opening-frame node-frame pair-frame frames starts-1f extent table-length
-    table-text script-text step-frame status-frame refusal-frame address-of line-answer goes-on played
-    end-frames within-room run-listing table-listing listing
+    subterms member frame-of limit longest refusal first-refusal closes next-due seen taken at-end at-line
+    judged-from whole-at number-met stage-behind judged leaf-of operator-of grown trees begins under joined
+    untouched right-side cells lookup labelled prefixed first-eval around each-with meet jointly carried
+    started leads parents ended one-side by-side same both-sides with-right in-sequence by-left at-Ω then
+    step after over-room Run.within-room whole Run.answered answer leaf-offers offers-✓ offers-τ
+    offers-event offers-some status digit-of with-digit answered present keep heads on-side next joins
+    among walk order placed numbered row rows rows-up canonical two opening-frame node-frame pair-frame
+    frames starts-1f extent table-length table-text script-text step-frame status-frame refusal-frame
+    address-of line-answer goes-on played end-frames within-room run-listing table-listing listing
 cases-listed = refl

@@ -13,13 +13,14 @@ use lib.Dec.{leb}
 use lib.Seq.{sets, sets-eq, length-sets, take-append-seam}
 use borrow.Author.Tests.{le-leb, leb-true}
 use Rattle.lines.specs.Line.{choose, LF, Raw, full, open-ended, lines, bytes, frame, text, two}
+use Rattle.lines.specs.Judging.{Judged}
+use Rattle.lines.specs.Judging as Judging
 use Rattle.lines.specs.code.Characters.{part}
 use Rattle.lines.proofs.Laws.{lines-first, bytes-length}
 use Rattle.scripts.specs.Script.{Asked, address, refused, asked}
 use Rattle.scripts.specs.code.Answers.{refusal}
 use Rattle.scripts.proofs.Steps.{is-step}
-use Rattle.tables.specs.Table.{Judged, judged}
-use Rattle.tables.specs.Table as Table
+use Rattle.tables.specs.Table.{Sofar, judged}
 use Rattle.terms.specs.Term.{Term, definitions-of}
 use Rattle.rules.specs.declared.Event.{Event}
 use Rattle.rules.specs.declared.Event.the-variants.{Tau as τ, Tick as ✓, Visible as visible}
@@ -140,10 +141,10 @@ run-long n r =
     (omega (arith, whole, front, end-long s (r .end), track-long track))
 
 -- a listing, by how the table is judged
-table-long : (j : Judged) (script : List ℕ) → length (table-listing j script) ≤ 131086
+table-long : (j : Judged Sofar) (script : List ℕ) → length (table-listing j script) ≤ 131086
 unfolding table-listing
-table-long (Table.refused r n) script = omega (arith, alone-long r n)
-table-long (Table.accepted t) script = go (leb (length script) script-room) refl
+table-long (Judging.refused r n) script = omega (arith, alone-long r n)
+table-long (Judging.accepted t) script = go (leb (length script) script-room) refl
   where
     r : Played
     r = played (definitions-of t) start 1 (lines script)

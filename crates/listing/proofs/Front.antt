@@ -12,7 +12,8 @@ use lib.Dec.{leb}
 use lib.Seq.{length-take-le, take-all, take-take}
 use borrow.Author.Tests.{lt-leb, leb-true, leb-false}
 use Rattle.lines.specs.Line.{lines}
-use Rattle.tables.specs.Table.{Judged, accepted, refused, text-room, judged}
+use Rattle.lines.specs.Judging.{Judged, accepted, refused}
+use Rattle.tables.specs.Table.{Sofar, text-room, judged}
 use Rattle.inputs.specs.Cut.{table-length, table-text, script-text}
 use Rattle.inputs.proofs.Cutting.{table-within, cut-front}
 use Rattle.listing.specs.Listing.{script-room, table-listing, listing}
@@ -26,7 +27,7 @@ long-table input h =
     rw (lt-leb (length (table-text input)) text-room (omega (arith, long)))
 
 -- two scripts over their room are listed alike
-long-scripts : (j : Judged) (s t : List ℕ) → script-room < length s → script-room < length t
+long-scripts : (j : Judged Sofar) (s t : List ℕ) → script-room < length s → script-room < length t
     → table-listing j s ≡ table-listing j t
 unfolding table-listing
 long-scripts (refused r n) s t h k = refl

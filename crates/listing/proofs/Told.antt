@@ -7,8 +7,9 @@ use mathlib.Core.List.{List, [], _∷_, _++_, map, append-assoc}
 use lib.ListN.{length, replicate, length-replicate}
 use lib.Dec.{leb}
 use Rattle.lines.specs.Line.{choose, lines, text}
+use Rattle.lines.specs.Judging.{accepted}
 use Rattle.scripts.specs.Script.{most}
-use Rattle.tables.specs.Table.{Sofar, accepted, judged}
+use Rattle.tables.specs.Table.{Sofar, judged}
 use Rattle.tables.specs.words.Columns.{kinds, payloads, owners, afters, roots}
 use Rattle.terms.specs.Term.{Term, definitions-of}
 use Rattle.terms.proofs.Trees.{each-at, checked-trees}

@@ -8,7 +8,8 @@ use lib.ListN.{length, getD, take, drop, length-drop}
 use lib.Seq.{sets, take-all}
 use borrow.Author.Tests.{le-leb, lt-leb}
 use Rattle.lines.specs.Line.{lines, text, hex, two}
-use Rattle.tables.specs.Table.{Judged, accepted, refused, judged}
+use Rattle.lines.specs.Judging.{Judged, accepted, refused}
+use Rattle.tables.specs.Table.{Sofar, judged}
 use Rattle.tables.specs.words.Columns.{answer, left, kinds, payloads, owners, afters, roots}
 use Rattle.tables.specs.declared.TableCounts.{TableCounts}
 use Rattle.tables.specs.declared.Checked.{Checked}
@@ -107,7 +108,7 @@ module _ (input : List ℕ) (end : ℕ) (ends : end ≡ table-length (lines inpu
   lent-is = take-all (length input - end) (drop end input) (omega (arith, length-drop end input))
 
   -- its listing, by what the table is judged
-  by-judged : (j : Judged) → judged (take end input) ≡ j → listing input ≡ table-listing j (drop end input)
+  by-judged : (j : Judged Sofar) → judged (take end input) ≡ j → listing input ≡ table-listing j (drop end input)
   unfolding listing table-text Cut.script-text
   by-judged j e = rw (← e, ends)
 

@@ -4,9 +4,10 @@ use mathlib.Core.List.{List, [], _∷_, _++_, map}
 use lib.ListN.{length}
 use lib.Dec.{leb}
 use Rattle.lines.specs.Line.{choose, Raw, frame, lines, text}
+use Rattle.lines.specs.Judging.{Judged, accepted, refused}
 use Rattle.scripts.specs.Script.{Asked, address, asked}
 use Rattle.scripts.specs.Script as Script
-use Rattle.tables.specs.Table.{Judged, accepted, refused, judged}
+use Rattle.tables.specs.Table.{Sofar, judged}
 use Rattle.terms.specs.Term.{Term, definitions-of}
 use Rattle.rules.specs.declared.Event.{Event}
 use Rattle.rules.specs.Run.{State, start, Answer}
@@ -69,7 +70,7 @@ run-listing events r =
     ++ within-room (saved (graph-of (r .state)))
 
 -- a refused table, or 6, is told alone
-unfoldable pub table-listing : Judged → List ℕ → List ℕ
+unfoldable pub table-listing : Judged Sofar → List ℕ → List ℕ
 table-listing (refused r n) script = alone r n
 table-listing (accepted t) script =
     choose (leb (length script) script-room)

@@ -14,9 +14,10 @@ use lib.ListN.{length, getD, getElem?, length-append}
 use lib.Dec.{eqb}
 use borrow.Author.Tests.{eqb-true, eq-eqb, ne-eqb}
 use Rattle.lines.specs.Line.{choose}
+use Rattle.lines.specs.Judging.{accepted}
 use Rattle.kinds.specs.Kind as Kind
 use Rattle.kinds.specs.Kind.{subterms}
-use Rattle.tables.specs.Table.{Sofar, judged, accepted}
+use Rattle.tables.specs.Table.{Sofar, judged}
 use Rattle.tables.specs.words.Columns.{kinds, payloads, owners, afters, roots}
 use Rattle.terms.specs.Term.{Term, leaf, prefix, binary, size, Shallow, definitions-of}
 use Rattle.terms.specs.words.Held.{HoldsTerm}

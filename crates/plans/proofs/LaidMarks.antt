@@ -10,8 +10,9 @@ use native.Mathlib.Omega.{arith}
 use lib.ListN.{length, getD, getElem?, length-map, List·getD-eq-default}
 use lib.Dec.{ltb}
 use borrow.Author.Tests.{ltb-true, ltb-false}
+use Rattle.lines.specs.Judging.{accepted}
 use Rattle.frames.specs.TableFrame.{term-room, definition-room}
-use Rattle.tables.specs.Table.{Item, Sofar, accepted, judged}
+use Rattle.tables.specs.Table.{Item, Sofar, judged}
 use Rattle.tables.specs.words.Columns.{column, kinds, owners, afters, roots}
 use Rattle.terms.specs.Term.{Term, leaf, prefix, binary, size, flat, starts, definitions-of}
 use Rattle.terms.proofs.Trees.{flat-length, checked-trees}

@@ -8,8 +8,9 @@ use mathlib.Core.Option.{some}
 use native.Mathlib.Omega.{arith}
 use native.Mathlib.Nat.{add-zero, add-assoc}
 use lib.ListN.{getElem?}
+use Rattle.lines.specs.Judging.{accepted}
 use Rattle.frames.specs.TableFrame.{definition-room}
-use Rattle.tables.specs.Table.{Sofar, accepted, judged}
+use Rattle.tables.specs.Table.{Sofar, judged}
 use Rattle.tables.specs.words.Columns.{roots}
 use Rattle.terms.specs.Term.{Term, prefix, size, definitions-of}
 use Rattle.terms.proofs.Held.{size-some}

@@ -11,10 +11,11 @@ use native.Mathlib.Omega.{arith}
 use lib.ListN.{length, getD, getElem?, set, replicate, length-append}
 use lib.Dec.{ltb, eqb}
 use Rattle.lines.specs.Line.{choose}
+use Rattle.lines.specs.Judging.{accepted}
 use Rattle.kinds.specs.Kind as Kind
 use Rattle.kinds.specs.Kind.{subterms}
 use Rattle.frames.specs.TableFrame.{term-room, path-room, definition-room}
-use Rattle.tables.specs.Table.{Sofar, accepted, judged}
+use Rattle.tables.specs.Table.{Sofar, judged}
 use Rattle.tables.specs.words.Columns.{kinds, owners, afters, roots}
 use Rattle.terms.specs.Term.{Term, starts, definitions-of}
 use Rattle.terms.proofs.Trees.{checked-trees}

@@ -7,8 +7,9 @@ use mathlib.Core.List.{List, [], _∷_}
 use mathlib.Core.Option.{some}
 use native.Mathlib.Omega.{arith}
 use lib.ListN.{length, getD, getElem?, getD-replicate, List·getD-append}
+use Rattle.lines.specs.Judging.{accepted}
 use Rattle.frames.specs.TableFrame.{definition-room}
-use Rattle.tables.specs.Table.{Sofar, accepted, judged}
+use Rattle.tables.specs.Table.{Sofar, judged}
 use Rattle.tables.specs.words.Columns.{column, kinds, payloads, afters, roots}
 use Rattle.terms.specs.Term.{Term, size, flat, starts, definitions-of}
 use Rattle.terms.specs.words.Held.{HoldsTerm}

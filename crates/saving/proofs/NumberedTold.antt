@@ -14,7 +14,8 @@ use lib.Seq.{sets, sets-eq, getD-append-add, getD-drop}
 use lib.Dec.{ltb, eqb}
 use borrow.Author.Tests.{ltb-true, ltb-false}
 use Rattle.lines.specs.Line.{choose}
-use Rattle.tables.specs.Table.{Sofar, accepted, judged}
+use Rattle.lines.specs.Judging.{accepted}
+use Rattle.tables.specs.Table.{Sofar, judged}
 use Rattle.tables.specs.words.Columns.{kinds, owners, afters, roots}
 use Rattle.terms.specs.Term.{definitions-of}
 use Rattle.columns.specs.words.Columns.{Columns, columns}

@@ -11,8 +11,9 @@ use native.Mathlib.Nat.{zero-add, add-zero, add-suc, suc-add}
 use lib.ListN.{length, getD, List·getD-eq-default}
 use lib.Dec.{leb, ltb}
 use borrow.Author.Tests.{ltb-true, ltb-false, le-ltb}
+use Rattle.lines.specs.Judging.{accepted}
 use Rattle.lines.proofs.Digits.{both}
-use Rattle.tables.specs.Table.{Sofar, accepted, judged}
+use Rattle.tables.specs.Table.{Sofar, judged}
 use Rattle.tables.specs.words.Columns.{kinds, owners, afters, roots}
 use Rattle.frames.specs.TableFrame.{path-room, definition-room}
 use Rattle.terms.specs.Term.{Term, definitions-of}

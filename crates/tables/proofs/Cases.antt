@@ -7,9 +7,10 @@ use mathlib.Core.List.{List, [], _∷_, _++_, map}
 use lib.ListN.{replicate}
 use Rattle.lines.specs.Line.{character, hex, text, digit, before, lines, pair, bytes, frame, characters}
 use Rattle.lines.specs.Line.{number-from}
+use Rattle.lines.specs.Judging.{at-end, at-line, judged-from}
 use Rattle.kinds.specs.Kind.{known, payload-bytes, subterms}
 use Rattle.frames.specs.TableFrame.{frame-of, limit, longest, refusal, first-refusal, closes}
-use Rattle.tables.specs.Table.{next-due, seen, taken, held, verdict, behind, rest, from-first, judged}
+use Rattle.tables.specs.Table.{next-due, seen, taken, whole-at, number-met, stage-behind, judged}
 use Rattle.tables.specs.words.Columns.{answer}
 use Rattle.tables.specs.declared.Checked.{Checked}
 use Rattle.tables.specs.declared.Checked.the-variants.{Accepted, Refused}
@@ -83,5 +84,6 @@ answers =
 pub cases-judged : map (λ (t : List ℕ). answer (judged t)) texts ≡ answers
 unfolding opening first e0 SKIP STOP case-A prefixes of texts answers character hex text digit before lines
     pair bytes frame characters number-from known payload-bytes subterms frame-of limit longest refusal
-    first-refusal closes next-due seen taken held verdict behind rest from-first judged answer
+    first-refusal closes next-due seen taken at-end at-line judged-from whole-at number-met stage-behind judged
+    answer
 cases-judged = refl

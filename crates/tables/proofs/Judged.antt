@@ -10,10 +10,13 @@ use lib.Dec.{eqb}
 use borrow.Author.Tests.{eqb-true}
 use Rattle.lines.specs.Line.{choose, Raw, frame, lines, characters}
 use Rattle.lines.specs.Line as Line
+use Rattle.lines.specs.Judging.{Judged, refused, judged-from}
 use Rattle.lines.specs.declared.Line.the-variants.{Found}
 use Rattle.lines.proofs.Laws.{IsLine, is-line}
+use Rattle.lines.proofs.Judging.{ends-early, no-line-fails, line-fails, line-taken}
 use Rattle.frames.specs.TableFrame.{frame-of, refusal, closes}
-use Rattle.tables.specs.Table.{Sofar, seen, taken, held, verdict, Judged, refused, behind, rest}
+use Rattle.tables.specs.Table.{Sofar, seen, taken, within, closed, whole-at, number-met, stage-behind}
+use Rattle.tables.specs.Table.{table-lines}
 use Rattle.refusals.specs.code.Said.{heard, said, stop}
 use Rattle.frames.specs.declared.Frame.{Frame}
 use Rattle.refusals.specs.declared.Said.{Said}
@@ -51,17 +54,16 @@ heard-goes r n (some bs) f next e = go (eqb (r (frame-of bs)) 0) refl e
     go false q e = let z : _≡_ {A = ℕ} 0 1 = cc in absurd (omega arith)
 
 -- and by the number that it stops with
-heard-stops : (r : Frame → ℕ) (n : ℕ) (o : Option (List ℕ)) (k : ℕ) → heard r n o ≡ Stops k
-    → (verdict r o ≡ k) × (eqb (verdict r o) 0 ≡ false)
-unfolding heard verdict
-heard-stops r n none k e = (cc, refl)
-heard-stops r n (some bs) k e = go (eqb (r (frame-of bs)) 0) refl e
+heard-stops : (r : Frame → ℕ) (n : ℕ) (bs : List ℕ) (k : ℕ) → heard r n (some bs) ≡ Stops k
+    → (r (frame-of bs) ≡ k) × (eqb k 0 ≡ false)
+unfolding heard
+heard-stops r n bs k e = go (eqb (r (frame-of bs)) 0) refl e
   where
     go : (b : Bool) → eqb (r (frame-of bs)) 0 ≡ b
         → choose b (Goes (frame-of bs) n) (Stops (r (frame-of bs))) ≡ Stops k
-        → (r (frame-of bs) ≡ k) × (b ≡ false)
+        → (r (frame-of bs) ≡ k) × (eqb k 0 ≡ false)
     go true q e = let z : _≡_ {A = ℕ} 0 1 = cc in absurd (omega arith)
-    go false q e = (cc, refl)
+    go false q e = let same : r (frame-of bs) ≡ k = cc in (same, sym (ap (λ (m : ℕ). eqb m 0) same) ∙ q)
 
 -- the number that a line stops with is the one told
 pub stops-is : (x : Said) (v n : ℕ) → x ≡ Stops v → n ≡ stop x → Stops n ≡ x
@@ -73,34 +75,44 @@ module _ (S : Sofar) (t : List ℕ) (at n : ℕ) where
   abbrev pub told : List Raw → Said
   told ls = said (λ (f : Frame). refusal f (seen S)) at ls
 
+  -- what is judged of some lines, within the table
+  abbrev pub rest : List Raw → Judged Sofar
+  rest ls = judged-from table-lines (within S) n ls
+
   -- a line that meets a refusal ends the work
-  pub rest-stops : (k : ℕ) → told (lines (drop at t)) ≡ Stops k → rest S n (lines (drop at t)) ≡ refused k n
-  unfolding said rest
+  pub rest-stops : (k : ℕ) → told (lines (drop at t)) ≡ Stops k → rest (lines (drop at t)) ≡ refused k n
+  unfolding said heard whole-at number-met
   rest-stops k e = go (lines (drop at t)) e
     where
-      go : (ls : List Raw) → told ls ≡ Stops k → rest S n ls ≡ refused k n
-      go [] e = let two : 2 ≡ k = cc in rw (← two)
-      go (l ∷ ls) e =
-          let h = heard-stops (λ (f : Frame). refusal f (seen S)) _ (frame l) k e in
-          rw (h .1, h .0)
+      by-frame : (l : Raw) (ls : List Raw) (o : Option (List ℕ)) → frame l ≡ o
+          → heard (λ (f : Frame). refusal f (seen S)) (at + length (characters l) + 1) o ≡ Stops k
+          → rest (l ∷ ls) ≡ refused k n
+      by-frame l ls none f e = let one : 1 ≡ k = cc in rw (← one) (no-line-fails table-lines (within S) n l ls f)
+      by-frame l ls (some bs) f e =
+          let h = heard-stops (λ (f : Frame). refusal f (seen S)) _ bs k e in
+          line-fails table-lines (within S) n l ls f (h .0) (h .1)
+
+      go : (ls : List Raw) → told ls ≡ Stops k → rest ls ≡ refused k n
+      go [] e = let two : 2 ≡ k = cc in rw (← two) (ends-early table-lines (within S) n refl)
+      go (l ∷ ls) e = by-frame l ls (frame l) refl e
 
   -- what is judged behind a line that meets none: it is the last, or is taken in
-  abbrev pub further : Frame → List Raw → Judged
-  further f ls = choose (closes f) (behind S (n + 1) ls) (rest (taken S f) (n + 1) ls)
+  abbrev pub further : Frame → List Raw → Judged Sofar
+  further f ls = judged-from table-lines (choose (closes f) (closed S) (within (taken S f))) (n + 1) ls
 
   one-more : (l : Raw) (ls : List Raw) (bs : List ℕ) → frame l ≡ some bs → refusal (frame-of bs) (seen S) ≡ 0
-      → rest S n (l ∷ ls) ≡ further (frame-of bs) ls
-  unfolding rest verdict held
-  one-more l ls bs e z = rw (e, z)
+      → rest (l ∷ ls) ≡ further (frame-of bs) ls
+  unfolding number-met stage-behind
+  one-more l ls bs e z = line-taken table-lines (within S) n l ls e z
 
   pub record Went (f : Frame) (next : ℕ) : Type 0 where
     pub fine : refusal f (seen S) ≡ 0
     pub on : at < next
     pub within : next ≤ length t
-    pub then : rest S n (lines (drop at t)) ≡ further f (lines (drop next t))
+    pub then : rest (lines (drop at t)) ≡ further f (lines (drop next t))
 
   pub rest-goes : (f : Frame) (next : ℕ) → told (lines (drop at t)) ≡ Goes f next → Went f next
-  unfolding said rest
+  unfolding said
   rest-goes f next e = go (lines (drop at t)) refl e
     where
       go : (ls : List Raw) → lines (drop at t) ≡ ls → told ls ≡ Goes f next → Went f next

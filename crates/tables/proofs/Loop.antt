@@ -8,11 +8,13 @@ use native.Mathlib.Omega.{arith}
 use lib.ListN.{length, drop, length-replicate, replicate}
 use Rattle.lines.specs.Line.{Raw, lines}
 use Rattle.lines.specs.Line as Line
+use Rattle.lines.specs.Judging.{Judged, accepted, refused, judged-from}
 use Rattle.lines.specs.declared.Line.the-variants.{Found, NoLine, End}
 use Rattle.lines.proofs.Laws.{is-line, not-a-line, none-left}
+use Rattle.lines.proofs.Judging.{ends-whole, no-line-fails, line-fails, accepted-whole, accepted-line}
 use Rattle.frames.specs.TableFrame.{refusal, closes}
-use Rattle.tables.specs.Table.{Sofar, next-due, seen, taken, verdict, Judged, accepted, refused, behind}
-use Rattle.tables.specs.Table.{rest}
+use Rattle.tables.specs.Table.{Sofar, next-due, seen, taken, within, closed, whole-at, number-met}
+use Rattle.tables.specs.Table.{table-lines}
 use Rattle.tables.specs.words.Columns.{answer}
 use Rattle.refusals.specs.code.Said.{said}
 use Rattle.filling.specs.code.Taking.{Ready, seen-then, waiting-then, roots-then, column-then}
@@ -28,20 +30,26 @@ use Rattle.tables.proofs.Kept.{Keeps, ready, keeps-on}
 use Rattle.tables.proofs.Judged.{rest-stops, Went, rest-goes}
 
 -- behind the last line: by what stands at the cursor
+abbrev behind : Sofar → ℕ → List Raw → Judged Sofar
+behind s n ls = judged-from table-lines (closed s) n ls
+
 module _ (S : Sofar) (t : List ℕ) (at n : ℕ) where
   pub behind-end : Line.answer at (lines (drop at t)) ≡ End → accepted S ≡ behind S n (lines (drop at t))
-  unfolding behind
-  behind-end e = rw (none-left t at e)
+  unfolding whole-at
+  behind-end e = rw (none-left t at e) (sym (ends-whole table-lines (closed S) n refl))
 
   pub behind-no-line : Line.answer at (lines (drop at t)) ≡ NoLine
       → refused 1 n ≡ behind S n (lines (drop at t))
-  unfolding behind verdict
-  behind-no-line e = let b = not-a-line t at e in rw (b .first, b .broken)
+  behind-no-line e =
+      let b = not-a-line t at e in
+      rw (b .first) (sym (no-line-fails table-lines (closed S) n _ _ (b .broken)))
 
   pub behind-line : (e m : ℕ) → Line.answer at (lines (drop at t)) ≡ Found e m
       → refused 2 n ≡ behind S n (lines (drop at t))
-  unfolding behind verdict
-  behind-line e m h = let b = is-line t at e m h in rw (b .first, b .framed)
+  unfolding number-met
+  behind-line e m h =
+      let b = is-line t at e m h in
+      rw (b .first) (sym (line-fails table-lines (closed S) n _ _ (b .framed) refl refl))
 
 -- the answer for a table that is accepted
 abbrev counts : Seen → TableCounts
@@ -53,13 +61,15 @@ answer-accepted t s e = ap (λ (u : Seen). Accepted (counts u)) e
 
 -- what is accepted behind the last line is what was said before it
 pub behind-accepts : (S T : Sofar) (n : ℕ) (ls : List Raw) → behind S n ls ≡ accepted T → S ≡ T
-unfolding behind
-behind-accepts S T n [] e = cc
-behind-accepts S T n (l ∷ ls) e = let z : _≡_ {A = ℕ} 0 1 = cc in absurd (omega arith)
+unfolding whole-at number-met
+behind-accepts S T n [] e = let same = accepted-whole table-lines (closed S) n e in cc
+behind-accepts S T n (l ∷ ls) e =
+    let late = accepted-line table-lines (closed S) n l ls e .none-met in
+    absurd (omega (arith, late))
 
 -- what is judged of all lines behind line 1
-abbrev whole : List ℕ → ℕ → ℕ → ℕ → Judged
-whole text from d ev = rest (begins d ev) 2 (lines (drop from text))
+abbrev whole : List ℕ → ℕ → ℕ → ℕ → Judged Sofar
+whole text from d ev = judged-from table-lines (within (begins d ev)) 2 (lines (drop from text))
 
 -- what the loop begins with
 abbrev start : ℕ → ℕ → Seen
@@ -70,7 +80,7 @@ module _ (text : List ℕ) (from d ev : ℕ) (k₀ p₀ o₀ r₀ : List ℕ) wh
   pub record Going (k p o r w : List ℕ) (s : Seen) (at line : ℕ) : Type 0 where
     pub sofar : Sofar
     pub keeps : Keeps sofar s w k p o r k₀ p₀ o₀ r₀
-    pub work : whole text from d ev ≡ rest sofar line (lines (drop at text))
+    pub work : whole text from d ev ≡ judged-from table-lines (within sofar) line (lines (drop at text))
     pub counted : line ≤ at + 2
 
   pub going-starts : d ≤ 64 → Going k₀ p₀ o₀ r₀ (replicate 65 0) (start d ev) from 2

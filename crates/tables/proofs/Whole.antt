@@ -12,9 +12,11 @@ use lib.Seq.{sets, sets-eq}
 use lib.Dec.{leb, eqb}
 use borrow.Author.Tests.{le-leb, lt-leb, leb-true}
 use Rattle.lines.specs.Line.{choose, Raw, frame, lines, characters}
+use Rattle.lines.specs.Judging.{Judged, accepted, refused, judged-from}
+use Rattle.lines.proofs.Judging.{ends-early, no-line-fails, line-fails, line-taken}
 use Rattle.frames.specs.TableFrame.{frame-of, first-refusal}
-use Rattle.tables.specs.Table.{Item, Sofar, taken, unopened, held, verdict, Judged, accepted, refused}
-use Rattle.tables.specs.Table.{rest, from-first, judged, text-room}
+use Rattle.tables.specs.Table.{Item, Sofar, taken, unopened, at-start, within, whole-at, number-met}
+use Rattle.tables.specs.Table.{stage-behind, table-lines, judged, text-room}
 use Rattle.tables.specs.words.Columns.{column, kinds, payloads, owners, roots, afters, left, answer}
 use Rattle.filling.specs.words.Preorder.{walked}
 use Rattle.refusals.specs.code.Said.{opens, opened-by, opened, failure}
@@ -58,56 +60,63 @@ opens-table (Opening ed dd ee) next d e n q = go (eqb ed 1) (leb 1 dd) (leb dd 6
 
 -- the number that line 1's frame meets is the one told
 opens-fails : (g : Frame) (next k : ℕ) → opens next g ≡ Fails k
-    → (first-refusal g ≡ k) × (eqb (first-refusal g) 0 ≡ false)
+    → (first-refusal g ≡ k) × (eqb k 0 ≡ false)
 unfolding opens first-refusal
-opens-fails Wrong next k q = (cc, refl)
-opens-fails (Definition n) next k q = (cc, refl)
-opens-fails (Term t p) next k q = (cc, refl)
-opens-fails (Closing t) next k q = (cc, refl)
+opens-fails Wrong next k q = let two : 2 ≡ k = cc in (two, rw (← two))
+opens-fails (Definition n) next k q = let two : 2 ≡ k = cc in (two, rw (← two))
+opens-fails (Term t p) next k q = let two : 2 ≡ k = cc in (two, rw (← two))
+opens-fails (Closing t) next k q = let two : 2 ≡ k = cc in (two, rw (← two))
 opens-fails (Opening ed dd ee) next k q = go (eqb ed 1 && (leb 1 dd && (leb dd 64 && leb ee 64))) q
   where
     go : (b : Bool) → choose (eqb (choose b 0 3) 0) (Table dd ee next) (Fails 3) ≡ Fails k
-        → (choose b 0 3 ≡ k) × (eqb (choose b 0 3) 0 ≡ false)
+        → (choose b 0 3 ≡ k) × (eqb k 0 ≡ false)
     go true q = let z : _≡_ {A = ℕ} 0 1 = cc in absurd (omega arith)
-    go false q = (cc, refl)
+    go false q = let three : 3 ≡ k = cc in (three, rw (← three))
+
+-- what is judged of all lines, and of those behind line 1
+abbrev from-first : List Raw → Judged Sofar
+from-first ls = judged-from table-lines at-start 1 ls
+
+abbrev behind-first : ℕ → ℕ → List Raw → Judged Sofar
+behind-first d e ls = judged-from table-lines (within (begins d e)) 2 ls
 
 first-opens : (l : Raw) (ls : List Raw) (bs : List ℕ) (d e : ℕ) → frame l ≡ some bs → Opens (frame-of bs) d e
-    → from-first (l ∷ ls) ≡ rest (begins d e) 2 ls
-unfolding from-first verdict held
-first-opens l ls bs d e f o = rw (f, o .0, o .1)
+    → from-first (l ∷ ls) ≡ behind-first d e ls
+unfolding number-met stage-behind
+first-opens l ls bs d e f o = line-taken table-lines at-start 1 l ls f (o .0) ∙ rw (o .1)
 
 pub table-opens : (t : List ℕ) (d e n : ℕ) → opened (lines t) ≡ Table d e n
-    → (from-first (lines t) ≡ rest (begins d e) 2 (lines (drop n t))) × (d ≤ 64)
+    → (from-first (lines t) ≡ behind-first d e (lines (drop n t))) × (d ≤ 64)
 unfolding opened opened-by
 table-opens t d e n q = go (lines t) refl q
   where
     by-frame : (l : Raw) (ls : List Raw) (o : Option (List ℕ)) → lines t ≡ l ∷ ls → frame l ≡ o
         → opened-by (length (characters l) + 1) o ≡ Table d e n
-        → (from-first (l ∷ ls) ≡ rest (begins d e) 2 (lines (drop n t))) × (d ≤ 64)
+        → (from-first (l ∷ ls) ≡ behind-first d e (lines (drop n t))) × (d ≤ 64)
     by-frame l ls none w f q = let z : _≡_ {A = ℕ} 0 1 = cc in absurd (omega arith)
     by-frame l ls (some bs) w f q =
         let r = opens-table (frame-of bs) (length (characters l) + 1) d e n q in
         let o = onward t 0 l ls bs w f in
         let m : 0 + length (characters l) + 1 ≡ n = omega (arith, r .1) in
         let on = o .behind-it ∙ ap (λ (j : ℕ). lines (drop j t)) m in
-        (first-opens l ls bs d e f (r .0) ∙ ap (rest (begins d e) 2) on, r .0 .2)
+        (first-opens l ls bs d e f (r .0) ∙ ap (behind-first d e) on, r .0 .2)
 
     go : (ls : List Raw) → lines t ≡ ls → opened ls ≡ Table d e n
-        → (from-first ls ≡ rest (begins d e) 2 (lines (drop n t))) × (d ≤ 64)
+        → (from-first ls ≡ behind-first d e (lines (drop n t))) × (d ≤ 64)
     go [] w q = let z : _≡_ {A = ℕ} 0 1 = cc in absurd (omega arith)
     go (l ∷ ls) w q = by-frame l ls (frame l) w refl q
 
 pub table-fails : (ls : List Raw) (k : ℕ) → opened ls ≡ Fails k → from-first ls ≡ refused k 1
-unfolding opened opened-by from-first verdict
-table-fails [] k q = let two : 2 ≡ k = cc in rw (← two)
+unfolding opened opened-by whole-at number-met
+table-fails [] k q = let two : 2 ≡ k = cc in rw (← two) (ends-early table-lines at-start 1 refl)
 table-fails (l ∷ ls) k q = by-frame (frame l) refl q
   where
     by-frame : (o : Option (List ℕ)) → frame l ≡ o → opened-by (length (characters l) + 1) o ≡ Fails k
         → from-first (l ∷ ls) ≡ refused k 1
-    by-frame none f q = let one : 1 ≡ k = cc in rw (f, ← one)
+    by-frame none f q = let one : 1 ≡ k = cc in rw (← one) (no-line-fails table-lines at-start 1 l ls f)
     by-frame (some bs) f q =
         let r = opens-fails (frame-of bs) (length (characters l) + 1) k q in
-        rw (f, r .1, r .0)
+        line-fails table-lines at-start 1 l ls f (r .0) (r .1)
 
 -- the number that line 1 fails with is the one told
 pub failure-is : (x : TableOpened) (v n : ℕ) → x ≡ Fails v → n ≡ failure x → x ≡ Fails n
@@ -124,12 +133,12 @@ unfolding judged
 judged-over t h = simp (lt-leb (length t) text-room h)
 
 -- what the answer says of what was judged
-pub answer-refuses : (j : Judged) (n l : ℕ) → answer j ≡ Refused n l → j ≡ refused n l
+pub answer-refuses : (j : Judged Sofar) (n l : ℕ) → answer j ≡ Refused n l → j ≡ refused n l
 unfolding answer
 answer-refuses (accepted s) n l e = let z : _≡_ {A = ℕ} 0 1 = cc in absurd (omega arith)
 answer-refuses (refused m k) n l e = let a : m ≡ n = cc in let b : k ≡ l = cc in ap₂ refused a b
 
-pub answer-accepts : (j : Judged) (c : TableCounts) → answer j ≡ Accepted c
+pub answer-accepts : (j : Judged Sofar) (c : TableCounts) → answer j ≡ Accepted c
     → (s : Sofar) × (j ≡ accepted s) × (c .terms ≡ length (s .terms))
 unfolding answer
 answer-accepts (accepted s) c e =

@@ -4,8 +4,9 @@ use Prim.Native.Nat.{ℕ, _+_, _-_}
 use mathlib.Core.List.{List, [], _∷_, _++_}
 use mathlib.Core.Option.{Option, none, some}
 use lib.ListN.{length, drop, replicate}
-use lib.Dec.{leb, eqb}
-use Rattle.lines.specs.Line.{choose, Raw, frame, lines}
+use lib.Dec.{leb}
+use Rattle.lines.specs.Line.{choose, lines}
+use Rattle.lines.specs.Judging.{Judged, refused, Judging, judged-from}
 use Rattle.kinds.specs.Kind.{subterms}
 use Rattle.frames.specs.TableFrame.{frame-of, refusal, first-refusal, closes}
 use Rattle.frames.specs.declared.Frame.{Frame}
@@ -73,44 +74,35 @@ taken s (Closing t) = s
 abbrev pub unopened : Sofar
 unopened = record { definitions = 0; events = 0; roots = []; terms = []; due = [] }
 
--- the bytes of what may be a line
-unfoldable pub held : Option (List ℕ) → List ℕ
-held none = []
-held (some bs) = bs
+-- how far a table's lines have come: before line 1, within, or behind the last line
+pub data Stage : Type 0 where
+  at-start : Stage
+  within : Sofar → Stage
+  closed : Sofar → Stage
 
--- the number that a line meets: 1 where it is no line, else its frame's
-unfoldable pub verdict : (Frame → ℕ) → Option (List ℕ) → ℕ
-verdict r none = 1
-verdict r (some bs) = r (frame-of bs)
+-- what the table says, behind its last line
+unfoldable pub whole-at : Stage → Option Sofar
+whole-at at-start = none
+whole-at (within s) = none
+whole-at (closed s) = some s
 
--- a table's text: accepted, or a refusal's number and line
-pub data Judged : Type 0 where
-  accepted : Sofar → Judged
-  refused : ℕ → ℕ → Judged
+-- the number that a line's bytes meet; behind the last line any are a frame out of place
+unfoldable pub number-met : Stage → List ℕ → ℕ
+number-met at-start bs = first-refusal (frame-of bs)
+number-met (within s) bs = refusal (frame-of bs) (seen s)
+number-met (closed s) bs = 2
 
--- behind the last line, line n on: any line is a frame out of place
-unfoldable pub behind : Sofar → ℕ → List Raw → Judged
-behind s n [] = accepted s
-behind s n (l ∷ ls) = refused (verdict (λ f. 2) (frame l)) n
+-- how far the lines have come behind one that meets none
+unfoldable pub stage-behind : Stage → List ℕ → Stage
+stage-behind at-start bs = within (taken unopened (frame-of bs))
+stage-behind (within s) bs = choose (closes (frame-of bs)) (closed s) (within (taken s (frame-of bs)))
+stage-behind (closed s) bs = closed s
 
--- the lines after line 1, from line n on; an early end is told at the line after the last
-unfoldable pub rest : Sofar → ℕ → List Raw → Judged
-rest s n [] = refused 2 n
-rest s n (l ∷ ls) =
-    choose (eqb (verdict (λ f. refusal f (seen s)) (frame l)) 0)
-    (choose (closes (frame-of (held (frame l))))
-    (behind s (n + 1) ls)
-    (rest (taken s (frame-of (held (frame l)))) (n + 1) ls))
-    (refused (verdict (λ f. refusal f (seen s)) (frame l)) n)
-
--- all lines
-unfoldable pub from-first : List Raw → Judged
-from-first [] = refused 2 1
-from-first (l ∷ ls) =
-    choose (eqb (verdict first-refusal (frame l)) 0)
-    (rest (taken unopened (frame-of (held (frame l)))) 2 ls)
-    (refused (verdict first-refusal (frame l)) 1)
+-- how a table's lines are judged
+abbrev pub table-lines : Judging Stage Sofar
+table-lines = record { whole = whole-at; number = number-met; behind = stage-behind }
 
 -- what a table's text is: number 6 is tested first
-unfoldable pub judged : List ℕ → Judged
-judged text = choose (leb (length text) text-room) (from-first (lines text)) (refused 6 0)
+unfoldable pub judged : List ℕ → Judged Sofar
+judged text =
+    choose (leb (length text) text-room) (judged-from table-lines at-start 1 (lines text)) (refused 6 0)

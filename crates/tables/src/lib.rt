@@ -28,8 +28,9 @@ ghost use mathlib.Core.Path.{_≡_};
 ghost use Prim.Native.Nat.{_≤_};
 ghost use lib.ListN.{drop};
 ghost use Rattle.lines.specs.Line.{lines};
+ghost use Rattle.lines.specs.Judging.{accepted, judged-from};
 ghost use Rattle.tables.specs.Table as table;
-ghost use Rattle.tables.specs.Table.{Sofar, accepted, judged, seen};
+ghost use Rattle.tables.specs.Table.{Sofar, judged, seen, table-lines, within};
 ghost use Rattle.tables.specs.words.Columns as columns;
 ghost use Rattle.tables.specs.words.Columns.{answer, left};
 ghost use Rattle.tables.specs.words.Filled.{begins, Filled};
@@ -131,9 +132,11 @@ fn body(
 ) -> Checked
     requires { ⌜ definitions ≤ 64 ⌝ }
     ensures { λ r. ⌜ r
-        ≡ answer (table.rest (begins definitions events) 2 (lines (drop from (now (text .entry))))) ⌝ }
+        ≡ answer (judged-from table-lines (within (begins definitions events)) 2
+        (lines (drop from (now (text .entry))))) ⌝ }
     ensures { λ _. ⌜ ((s : Sofar)
-        → table.rest (begins definitions events) 2 (lines (drop from (now (text .entry)))) ≡ accepted s
+        → judged-from table-lines (within (begins definitions events)) 2 (lines (drop from (now (text .entry))))
+        ≡ accepted s
         → Filled s (now (kinds .exit)) (now (payloads .exit)) (now (owners .exit)) (now (roots .exit))
         (now (kinds .entry)) (now (payloads .entry)) (now (owners .entry)) (now (roots .entry))) ⌝ }
 {
@@ -168,7 +171,7 @@ fn body(
 // Behind the last line nothing may stand.
 fn closed(text: &[u8], at: usize, s: Seen, line: usize) -> Checked
     ensures { λ r. ⌜ ((t : Sofar) → s ≡ seen t
-        → r ≡ answer (table.behind t line (lines (drop at (now (text .entry)))))) ⌝ }
+        → r ≡ answer (judged-from table-lines (table.closed t) line (lines (drop at (now (text .entry)))))) ⌝ }
 {
     let found = next_line(text, at);
     match found {

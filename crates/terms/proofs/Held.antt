@@ -9,13 +9,14 @@ use native.Mathlib.Omega.{arith}
 use native.Mathlib.Nat.{add-zero, zero-add}
 use lib.ListN.{length, getD, getElem?, set, replicate, length-set, length-replicate}
 use lib.Seq.{getD-set-same, getD-set-other}
+use Rattle.lines.specs.Judging.{accepted}
 use Rattle.kinds.specs.Kind as Kind
 use Rattle.kinds.specs.Kind.{subterms}
 use Rattle.terms.specs.Term.{Leaf, leaf-kind, leaf-payload, Operator, operator-kind, operator-payload}
 use Rattle.terms.specs.Term.{Term, leaf, prefix, binary, size, preorder, flat, starts, definitions-of}
 use Rattle.terms.specs.words.Held.{HoldsTerm}
 use Rattle.frames.specs.TableFrame.{term-room}
-use Rattle.tables.specs.Table.{Item, Sofar, accepted, judged}
+use Rattle.tables.specs.Table.{Item, Sofar, judged}
 use Rattle.tables.specs.words.Columns.{column, kinds, payloads, owners, roots, afters}
 use Rattle.filling.specs.words.Preorder.{past, walked}
 use Rattle.filling.proofs.Walked.{past-none, past-one, past-two}

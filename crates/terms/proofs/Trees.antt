@@ -6,15 +6,17 @@ use Prim.Native.Nat.{ℕ, zero, suc, _+_, _-_, _≤_, _<_}
 use mathlib.Core.Path.{_≡_, refl, sym, ap, ap₂, _∙_}
 use mathlib.Core.Bool.{Bool, true, false, _&&_}
 use mathlib.Core.List.{List, [], _∷_, _++_, append-assoc, append-nil}
-use mathlib.Core.Option.{Option, none, some}
+use mathlib.Core.Option.{none, some}
 use native.Mathlib.Omega.{arith}
 use native.Mathlib.Nat.{add-zero, add-suc, suc-add, zero-add}
 use lib.ListN.{length, getD, getElem?, drop, replicate, length-append}
 use lib.Seq.{append-snoc}
 use lib.Dec.{leb, eqb}
-use borrow.Author.Tests.{leb-true, eqb-true}
-use Rattle.lines.specs.Line.{choose, number, Raw, frame, lines}
+use borrow.Author.Tests.{leb-true}
+use Rattle.lines.specs.Line.{choose, number, Raw, lines}
+use Rattle.lines.specs.Judging.{Judged, accepted, refused, judged-from}
 use Rattle.lines.proofs.Digits.{both}
+use Rattle.lines.proofs.Judging.{accepted-whole, accepted-line}
 use Rattle.kinds.specs.Kind as Kind
 use Rattle.kinds.specs.Kind.{known, payload-bytes, subterms}
 use Rattle.frames.specs.TableFrame.{limit, longest, refusal, first-refusal, closes, frame-of}
@@ -22,8 +24,8 @@ use Rattle.frames.specs.declared.Frame.{Frame}
 use Rattle.frames.specs.declared.Frame.the-variants.{Opening, Definition, Term as TermLine, Closing, Wrong}
 use Rattle.frames.specs.declared.Seen.{Seen}
 use Rattle.refusals.proofs.Fine.{FineTerm, fine-term, depth-fits, fine-definition, fine-closing}
-use Rattle.tables.specs.Table.{Item, Sofar, next-due, seen, taken, unopened, held, verdict, Judged, accepted}
-use Rattle.tables.specs.Table.{refused, behind, rest, from-first, judged, text-room}
+use Rattle.tables.specs.Table.{Item, Sofar, next-due, seen, taken, unopened, at-start, within, closed, whole-at}
+use Rattle.tables.specs.Table.{number-met, stage-behind, table-lines, judged, text-room}
 use Rattle.tables.specs.words.Filled.{begins}
 use Rattle.tables.proofs.Loop.{behind-accepts}
 use Rattle.terms.specs.Term.{Leaf, call, SKIP, STOP, Operator, internal, external, sequence, parallel}
@@ -356,21 +358,11 @@ frame-known bs =
     go false k l false false true h = tt
     go false k l false false false h = tt
 
--- a text that is accepted fails no test
-accepted-by : (b : Bool) (x : Judged) (n l : ℕ) (t : Sofar) → choose b x (refused n l) ≡ accepted t
-    → (b ≡ true) × (x ≡ accepted t)
-accepted-by true x n l t e = (refl, e)
-accepted-by false x n l t e = let z : _≡_ {A = ℕ} 0 1 = cc in absurd (omega arith)
-
-met-none : (r : Frame → ℕ) (o : Option (List ℕ)) → eqb (verdict r o) 0 ≡ true → r (frame-of (held o)) ≡ 0
-unfolding verdict held
-met-none r none e = let z : _≡_ {A = ℕ} 0 1 = cc in absurd (omega arith)
-met-none r (some bs) e = eqb-true (r (frame-of bs)) 0 e
-
 -- a line that meets no refusal goes on, or is the last
 line-table : (f : Frame) (s : Sofar) (n : ℕ) (ls : List Raw) (t : Sofar) → Grows s → Known f
-    → refusal f (seen s) ≡ 0 → (Grows (taken s f) → rest (taken s f) n ls ≡ accepted t → IsTable t)
-    → choose (closes f) (behind s n ls) (rest (taken s f) n ls) ≡ accepted t → IsTable t
+    → refusal f (seen s) ≡ 0
+    → (Grows (taken s f) → judged-from table-lines (within (taken s f)) n ls ≡ accepted t → IsTable t)
+    → judged-from table-lines (choose (closes f) (closed s) (within (taken s f))) n ls ≡ accepted t → IsTable t
 unfolding refusal closes
 line-table Wrong s n ls t g h e on q = let z : _≡_ {A = ℕ} 2 0 = e in absurd (omega arith)
 line-table (Opening ed dd ee) s n ls t g h e on q = let z : _≡_ {A = ℕ} 2 0 = e in absurd (omega arith)
@@ -378,15 +370,17 @@ line-table (Definition m) s n ls t g h e on q = on (grows-definition s g m e) q
 line-table (TermLine k p) s n ls t g h e on q = on (grows-term s g k p h e) q
 line-table (Closing m) s n ls t g h e on q = rw (behind-accepts s t n ls q) at (is-table s g m e)
 
-rest-table : (ls : List Raw) (s : Sofar) (n : ℕ) (t : Sofar) → Grows s → rest s n ls ≡ accepted t → IsTable t
-unfolding rest
-rest-table [] s n t g q = let z : _≡_ {A = ℕ} 0 1 = cc in absurd (omega arith)
+rest-table : (ls : List Raw) (s : Sofar) (n : ℕ) (t : Sofar) → Grows s
+    → judged-from table-lines (within s) n ls ≡ accepted t → IsTable t
+unfolding whole-at number-met stage-behind
+rest-table [] s n t g q =
+    let early : none ≡ some t = accepted-whole table-lines (within s) n q in
+    let z : _≡_ {A = ℕ} 0 1 = cc in absurd (omega arith)
 rest-table (l ∷ ls) s n t g q =
-    let a = accepted-by _ _ _ _ t q in
-    let f : Frame = frame-of (held (frame l)) in
-    let fine : refusal f (seen s) ≡ 0 = met-none (λ (x : Frame). refusal x (seen s)) (frame l) (a .0) in
-    line-table f s (n + 1) ls t g (frame-known (held (frame l))) fine
-    (λ g′ q′. rest-table ls (taken s f) (n + 1) t g′ q′) (a .1)
+    let a = accepted-line table-lines (within s) n l ls q in
+    let f = frame-of (a .bytes) in
+    line-table f s (n + 1) ls t g (frame-known (a .bytes)) (a .none-met)
+    (λ g′ q′. rest-table ls (taken s f) (n + 1) t g′ q′) (a .then)
 
 -- line 1
 no-refusal : (b : Bool) → _≡_ {A = ℕ} (choose b 0 3) 0 → b ≡ true
@@ -417,13 +411,21 @@ opening-grows (Opening ed dd ee) e =
       complete = complete-none dd ee;
     }
 
-first-table : (ls : List Raw) (t : Sofar) → from-first ls ≡ accepted t → IsTable t
-unfolding from-first
-first-table [] t q = let z : _≡_ {A = ℕ} 0 1 = cc in absurd (omega arith)
+first-table : (ls : List Raw) (t : Sofar) → judged-from table-lines at-start 1 ls ≡ accepted t → IsTable t
+unfolding whole-at number-met stage-behind
+first-table [] t q =
+    let early : none ≡ some t = accepted-whole table-lines at-start 1 q in
+    let z : _≡_ {A = ℕ} 0 1 = cc in absurd (omega arith)
 first-table (l ∷ ls) t q =
-    let a = accepted-by _ _ _ _ t q in
-    rest-table ls _ 2 t (opening-grows _ (met-none first-refusal (frame l) (a .0))) (a .1)
+    let a = accepted-line table-lines at-start 1 l ls q in
+    rest-table ls _ 2 t (opening-grows _ (a .none-met)) (a .then)
+
+-- a text that is accepted fails no test
+accepted-by : (b : Bool) (x : Judged Sofar) (n l : ℕ) (t : Sofar) → choose b x (refused n l) ≡ accepted t
+    → x ≡ accepted t
+accepted-by true x n l t e = e
+accepted-by false x n l t e = let z : _≡_ {A = ℕ} 0 1 = cc in absurd (omega arith)
 
 pub checked-trees : (text : List ℕ) (s : Sofar) → judged text ≡ accepted s → IsTable s
 unfolding judged
-checked-trees text s q = first-table (lines text) s (accepted-by (leb (length text) text-room) _ 6 0 s q .1)
+checked-trees text s q = first-table (lines text) s (accepted-by (leb (length text) text-room) _ 6 0 s q)

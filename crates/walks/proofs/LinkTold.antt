@@ -12,8 +12,9 @@ use lib.ListN.{length, replicate}
 use lib.Dec.{leb, eqb}
 use borrow.Author.Tests.{leb-true, le-leb, lt-leb, lt-ltb}
 use Rattle.lines.specs.Line.{choose}
+use Rattle.lines.specs.Judging.{accepted}
 use Rattle.lines.proofs.Digits.{both}
-use Rattle.tables.specs.Table.{Sofar, accepted, judged}
+use Rattle.tables.specs.Table.{Sofar, judged}
 use Rattle.tables.specs.words.Columns.{kinds, afters}
 use Rattle.terms.specs.Term.{definitions-of}
 use Rattle.places.specs.Place.{Place}

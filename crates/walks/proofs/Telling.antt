@@ -14,9 +14,10 @@ use lib.ListN.{length, getD, getElem?}
 use lib.Dec.{leb, ltb, eqb}
 use borrow.Author.Tests.{eqb-true, eqb-false, ne-eqb, ltb-true, ltb-false, le-ltb, leb-true, leb-false}
 use Rattle.lines.specs.Line.{choose}
+use Rattle.lines.specs.Judging.{accepted}
 use Rattle.kinds.specs.Kind as Kind
 use Rattle.frames.specs.TableFrame.{term-room, definition-room}
-use Rattle.tables.specs.Table.{Sofar, accepted, judged}
+use Rattle.tables.specs.Table.{Sofar, judged}
 use Rattle.tables.specs.words.Columns.{kinds, owners, afters, roots}
 use Rattle.terms.specs.Term.{Term, Operator, call, SKIP, STOP, internal, external, sequence, parallel, size}
 use Rattle.terms.specs.Term.{leaf-kind, operator-kind, definitions-of}

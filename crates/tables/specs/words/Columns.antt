@@ -4,7 +4,8 @@ use Prim.Native.Nat.{ℕ, _-_}
 use mathlib.Core.List.{List, _++_, map}
 use lib.ListN.{length, replicate}
 use Rattle.frames.specs.TableFrame.{term-room, definition-room}
-use Rattle.tables.specs.Table.{Item, Sofar, Judged, accepted, refused, judged}
+use Rattle.lines.specs.Judging.{Judged, accepted, refused}
+use Rattle.tables.specs.Table.{Item, Sofar, judged}
 use Rattle.tables.specs.declared.Checked.{Checked}
 use Rattle.tables.specs.declared.Checked.the-variants.{Accepted, Refused}
 use Rattle.filling.specs.words.Preorder.{walked}
@@ -33,12 +34,12 @@ unfoldable pub afters : Sofar → List ℕ
 afters s = walked (length (s .terms)) (kinds s) (replicate term-room 0)
 
 -- what a column holds afterwards
-unfoldable pub left : (Sofar → List ℕ) → Judged → List ℕ → List ℕ
+unfoldable pub left : (Sofar → List ℕ) → Judged Sofar → List ℕ → List ℕ
 left col (accepted s) old = col s
 left col (refused n l) old = old
 
 -- the answer: the table's counts, or the paper's number of the refusal and its line
-unfoldable pub answer : Judged → Checked
+unfoldable pub answer : Judged Sofar → Checked
 answer (accepted s) =
     Accepted (record { definitions = s .definitions; events = s .events; terms = length (s .terms) })
 answer (refused n l) = Refused n l
