@@ -20,7 +20,7 @@ use Rattle.lines.specs.declared.Line.the-variants.{Found, NoLine, End}
 use Rattle.lines.proofs.Laws.{IsLine, is-line, not-a-line, none-left, part-some}
 use Rattle.tables.proofs.Kept.{sets-snoc}
 use Rattle.rules.specs.Track.{Label, Pair}
-use Rattle.graphs.specs.Parsed.{opening, frame-of, pair-at, a-node, the-last, refusal, first-refusal, verdict}
+use Rattle.graphs.specs.Parsed.{opening, frame-of, pair-at, a-node, the-last, refusal, first-refusal}
 use Rattle.links.specs.words.Columns.{flat}
 use Rattle.finding.specs.code.Found.{mark-of, marks-of}
 use Rattle.finding.specs.words.Node.{label-at}
@@ -133,12 +133,12 @@ module _ (text : List ℕ) (at k : ℕ) where
   behind-end e = rw (none-left text at e)
 
   pub behind-no-line : answer at (lines (drop at text)) ≡ NoLine → Stops 1 k ≡ none-read k at (lines (drop at text))
-  unfolding none-read verdict
+  unfolding none-read by-frame
   behind-no-line e = let b = not-a-line text at e in rw (b .first, b .broken)
 
   pub behind-line : {e m : ℕ} → answer at (lines (drop at text)) ≡ Found e m
       → Stops 2 k ≡ none-read k at (lines (drop at text))
-  unfolding none-read verdict
+  unfolding none-read by-frame
   behind-line {e} {m} h = let b = is-line text at e m h in rw (b .first, b .framed)
 
   abbrev halted : ℕ → Lines

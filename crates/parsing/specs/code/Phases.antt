@@ -8,7 +8,7 @@ use lib.Dec.{eqb}
 use Rattle.lines.specs.Line.{choose, Raw, lines, frame, characters}
 use Rattle.rules.specs.Track.{Label, Pair}
 use Rattle.graphs.specs.Parsed.{Frame, opening, node, arc, meeting, last, wrong, pair-at, formed, frame-of}
-use Rattle.graphs.specs.Parsed.{a-node, the-last, ends-below, unless, refusal, first-refusal, verdict}
+use Rattle.graphs.specs.Parsed.{a-node, the-last, ends-below, unless, refusal, first-refusal}
 use Rattle.finding.specs.words.Node.{label-at}
 use Rattle.parsing.specs.declared.TrackOpened.{TrackOpened}
 use Rattle.parsing.specs.declared.TrackOpened.the-variants.{Track, Fails}
@@ -77,7 +77,7 @@ pairs-read c n m k text at = lines-read (pair-refusal n c) pair-at m k at (lines
 -- behind the last line any line is a frame out of place
 unfoldable pub none-read : ℕ → ℕ → List Raw → Lines
 none-read k at [] = Goes at
-none-read k at (l ∷ ls) = Stops (verdict (λ f. 2) (frame l)) k
+none-read k at (l ∷ ls) = by-frame (λ r. Stops r k) (λ bs. 2) (λ bs next ls. Goes next) at ls (frame l)
 
 -- the last line, line k, and what stands behind it; no range bears on it
 unfoldable pub last-read : ℕ → ℕ → List Raw → Lines
