@@ -11,8 +11,9 @@ use lib.ListN.{length, replicate, length-replicate}
 use lib.Seq.{sets}
 use lib.Dec.{ltb, eqb}
 use borrow.Author.Tests.{lt-ltb}
+use Rattle.lines.specs.Judging.{Judged, accepted, refused}
 use Rattle.lines.proofs.Digits.{both}
-use Rattle.tables.specs.Table.{Sofar, accepted, judged}
+use Rattle.tables.specs.Table.{Sofar, judged}
 use Rattle.tables.specs.words.Columns.{kinds, owners, afters, roots, Table-of}
 use Rattle.terms.specs.Term.{Term, definitions-of}
 use Rattle.columns.specs.words.Columns.{Columns, columns, all-columns, read-columns}
@@ -24,7 +25,7 @@ use Rattle.control.specs.words.Views.{pairs}
 use Rattle.graphs.specs.Graph.{Graph, graph-of, labelled}
 use Rattle.graphs.specs.Walk.{order}
 use Rattle.graphs.specs.Saved.{placed, numbered, canonical, graph-text, saved}
-use Rattle.graphs.specs.Parsed.{Parsed, says, refused, parsed}
+use Rattle.graphs.specs.Parsed.{parsed}
 use Rattle.graphs.specs.Shape.{every, in-order, from-on, walked, shaped, ascends, branches, read}
 use Rattle.graphs.specs.Shape as Shape
 use Rattle.graphs.proofs.References.{same-true}
@@ -65,7 +66,7 @@ labels-again c ls ms k (suc n) h =
 
 -- a text that is read against a checked table
 module _ (text : List ℕ) (t : Sofar) (q : judged text ≡ accepted t) (lines : List ℕ) (g : Graph)
-    (is : read (definitions-of t) lines ≡ says g) where
+    (is : read (definitions-of t) lines ≡ accepted g) where
   abbrev ts : List Term
   ts = definitions-of t
 
@@ -150,17 +151,19 @@ module _ (text : List ℕ) (t : Sofar) (q : judged text ≡ accepted t) (lines :
   columns-tell = rw (labels-are, arcs-are, meetings-are)
 
 -- an accepted text says a graph, whose counts the answer has
-accepted-says : (o : Parsed) (n : GraphCounts) → answer o ≡ Accepted n → (g : Graph) × (o ≡ says g) × (n ≡ counts-of g)
+accepted-says : (o : Judged Graph) (n : GraphCounts) → answer o ≡ Accepted n
+    → (g : Graph) × (o ≡ accepted g) × (n ≡ counts-of g)
 unfolding answer
-accepted-says (says g) n e = (g, refl, let same : n ≡ counts-of g = cc in same)
+accepted-says (accepted g) n e = (g, refl, let same : n ≡ counts-of g = cc in same)
 accepted-says (refused m k) n e = let z : _≡_ {A = ℕ} 0 1 = cc in absurd (omega arith)
 
 -- a table's columns, as its check left them
 module _ {text ks ps os xs rs : List ℕ} {d : ℕ} {t : Sofar} (table : Table-of text (all-columns ks ps os xs rs) t)
     (many : d ≡ length (definitions-of t)) where
   -- what reading leaves where a text says a graph tells it
-  left-tell : (lines : List ℕ) (g : Graph) → read (definitions-of t) lines ≡ says g → (labels graph : List ℕ)
-      → told-by ks os xs rs (labels-left ks ps xs rs (says g) labels) (graph-left (says g) graph) (counts-of g) ≡ g
+  left-tell : (lines : List ℕ) (g : Graph) → read (definitions-of t) lines ≡ accepted g → (labels graph : List ℕ)
+      → told-by ks os xs rs (labels-left ks ps xs rs (accepted g) labels) (graph-left (accepted g) graph) (counts-of g)
+      ≡ g
   unfolding labels-left graph-left
   left-tell lines g is labels graph =
       rw (table .kinds-are, table .owners-are, table .after-are, table .roots-are)
@@ -171,7 +174,7 @@ module _ {text ks ps os xs rs : List ℕ} {d : ℕ} {t : Sofar} (table : Table-o
       (reads : Reads d (read-columns ks ps xs rs) lines labels graph r labels′ graph′) where
     -- an accepted text says a graph, and the columns tell it
     pub accepted-tells : (n : GraphCounts) → r ≡ Accepted n
-        → (read (definitions-of t) lines ≡ says (told-by ks os xs rs labels′ graph′ n))
+        → (read (definitions-of t) lines ≡ accepted (told-by ks os xs rs labels′ graph′ n))
         × (n ≡ counts-of (told-by ks os xs rs labels′ graph′ n))
     accepted-tells n is =
         let (told, stand, linked) = reads text os t table many in
@@ -180,13 +183,13 @@ module _ {text ks ps os xs rs : List ℕ} {d : ℕ} {t : Sofar} (table : Table-o
       where
         go : (g : Graph) → labels′ ≡ labels-left ks ps xs rs (read (definitions-of t) lines) labels
             → graph′ ≡ graph-left (read (definitions-of t) lines) graph
-            → read (definitions-of t) lines ≡ says g → n ≡ counts-of g
-            → (read (definitions-of t) lines ≡ says (told-by ks os xs rs labels′ graph′ n))
+            → read (definitions-of t) lines ≡ accepted g → n ≡ counts-of g
+            → (read (definitions-of t) lines ≡ accepted (told-by ks os xs rs labels′ graph′ n))
             × (n ≡ counts-of (told-by ks os xs rs labels′ graph′ n))
         go g stand linked says-g counts =
             let tells : told-by ks os xs rs labels′ graph′ n ≡ g =
             rw (stand, linked, says-g, counts) (left-tell lines g says-g labels graph) in
-            (says-g ∙ ap says (sym tells), counts ∙ ap counts-of (sym tells))
+            (says-g ∙ ap accepted (sym tells), counts ∙ ap counts-of (sym tells))
 
     -- "A refused table, save or read writes nothing"
     pub refused-writes-nothing : (n k : ℕ) → r ≡ Refused n k → (labels′ ≡ labels) × (graph′ ≡ graph)
@@ -195,9 +198,9 @@ module _ {text ks ps os xs rs : List ℕ} {d : ℕ} {t : Sofar} (table : Table-o
         let (told, stand, linked) = reads text os t table many in
         go (read (definitions-of t) lines) (sym is ∙ told) stand linked
       where
-        go : (o : Parsed) → Refused n k ≡ answer o → labels′ ≡ labels-left ks ps xs rs o labels
+        go : (o : Judged Graph) → Refused n k ≡ answer o → labels′ ≡ labels-left ks ps xs rs o labels
             → graph′ ≡ graph-left o graph → (labels′ ≡ labels) × (graph′ ≡ graph)
-        go (says g) e f h = let z : _≡_ {A = ℕ} 0 1 = cc in absurd (omega arith)
+        go (accepted g) e f h = let z : _≡_ {A = ℕ} 0 1 = cc in absurd (omega arith)
         go (refused m j) e f h = (f, h)
 
     -- "and writes again as the same text": whatever text was accepted, what is written of the columns is that text
@@ -223,7 +226,7 @@ module _ {text ks ps os xs rs : List ℕ} {d : ℕ} {t : Sofar} (table : Table-o
   reads-back v s held slice slice′ r save long labels graph labels′ graph′ r′ reads =
       let bytes = save-leaves table v s held slice slice′ r save long in
       let (some-first, few) = checked-count text t (table .checked) in
-      let says-it : read (definitions-of t) (bytes-of r slice′) ≡ says (canonical (graph-of s)) =
+      let says-it : read (definitions-of t) (bytes-of r slice′) ≡ accepted (canonical (graph-of s)) =
       ap (read (definitions-of t)) bytes
       ∙ saved-reads-back (definitions-of t) (held .reached) (checked-shallow text t (table .checked)) some-first few in
       let (told, stand, linked) = reads text os t table many in (

@@ -10,7 +10,8 @@ use native.Mathlib.Omega.{arith}
 use lib.ListN.{length, getElem?}
 use lib.Seq.{sets-eq, take-append-seam}
 use borrow.Author.Tests.{le-leb, lt-leb}
-use Rattle.tables.specs.Table.{Sofar, accepted, judged}
+use Rattle.lines.specs.Judging.{accepted}
+use Rattle.tables.specs.Table.{Sofar, judged}
 use Rattle.terms.specs.Term.{Term, definitions-of, Shallow}
 use Rattle.terms.proofs.Trees.{each-at, checked-trees}
 use Rattle.rules.specs.Run.{State}

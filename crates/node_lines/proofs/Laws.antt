@@ -18,7 +18,8 @@ use Rattle.tables.proofs.Kept.{sets-snoc}
 use Rattle.rules.specs.Track.{Label}
 use Rattle.graphs.specs.Graph.{Graph}
 use Rattle.graphs.specs.Parsed.{node, place-at, formed, Due, frame-of, a-node, in-range, unless, refusal, taken}
-use Rattle.graphs.specs.Parsed.{nothing, rest}
+use Rattle.graphs.specs.Parsed.{nothing}
+use Rattle.graphs.proofs.DueLines.{rest}
 use Rattle.finding.specs.code.Found.{mark-of, marks-of}
 use Rattle.finding.specs.words.Node.{label-at}
 use Rattle.finding.proofs.FoundLaws.{marks-length}

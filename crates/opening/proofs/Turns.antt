@@ -18,7 +18,7 @@ use Rattle.lines.specs.declared.Line.the-variants.{Found, NoLine, End}
 use Rattle.lines.proofs.Laws.{IsLine, is-line, not-a-line, none-left, past}
 use Rattle.numbers.specs.code.Numbers.{read-bytes}
 use Rattle.numbers.proofs.Laws.{bytes-read}
-use Rattle.graphs.specs.Parsed.{opening, frame-of, the-last, refusal, first-refusal, verdict}
+use Rattle.graphs.specs.Parsed.{opening, frame-of, the-last, refusal, first-refusal}
 use Rattle.opening.specs.code.Phases.{by-frame, line-read, Told, told-stop, told-after, lines-read}
 use Rattle.opening.specs.code.Ends.{counts, opened, none-read, last-read}
 use Rattle.opening.specs.declared.TrackOpened.{TrackOpened}
@@ -120,12 +120,12 @@ module _ (text : List ℕ) (at k : ℕ) where
   behind-end e = rw (none-left text at e)
 
   pub behind-no-line : answer at (lines (drop at text)) ≡ NoLine → Stops 1 k ≡ none-read k at (lines (drop at text))
-  unfolding none-read verdict
+  unfolding none-read by-frame
   behind-no-line e = let b = not-a-line text at e in rw (b .first, b .broken)
 
   pub behind-line : {e m : ℕ} → answer at (lines (drop at text)) ≡ Found e m
       → Stops 2 k ≡ none-read k at (lines (drop at text))
-  unfolding none-read verdict
+  unfolding none-read by-frame
   behind-line {e} {m} h = let b = is-line text at e m h in rw (b .first, b .framed)
 
   abbrev halted : ℕ → Lines

@@ -12,14 +12,16 @@ use lib.ListN.{length, drop, replicate}
 use lib.Dec.{leb, eqb}
 use borrow.Author.Tests.{eqb-true, leb-true}
 use Rattle.lines.specs.Line.{choose, Raw, lines, frame, characters, seen, answer}
+use Rattle.lines.specs.Judging.{Judged, accepted, refused, at-end, at-line, judged-from}
 use Rattle.lines.specs.declared.Line.the-variants.{Found}
 use Rattle.lines.proofs.Digits.{both}
 use Rattle.lines.proofs.Laws.{is-line}
 use Rattle.rules.specs.Run.{node-room, arc-room, meeting-room}
 use Rattle.graphs.specs.Graph.{Graph}
 use Rattle.graphs.specs.Parsed.{Frame, opening, node, arc, meeting, last, wrong, frame-of, Due, the-last, dues}
-use Rattle.graphs.specs.Parsed.{unless, refusal, first-refusal, taken, nothing, Parsed, says, refused, verdict}
-use Rattle.graphs.specs.Parsed.{heard, rest, behind, from-first, parsed}
+use Rattle.graphs.specs.Parsed.{unless, refusal, first-refusal, taken, nothing, at-start, whole-at, behind-first}
+use Rattle.graphs.specs.Parsed.{stage-behind, due, number-met, track-lines, parsed}
+use Rattle.graphs.proofs.DueLines.{rest}
 use Rattle.opening.specs.code.Phases.{by-frame, line-read, Told, told-stop, told-after, lines-read}
 use Rattle.opening.specs.code.Ends.{counts, opened, none-read, last-read}
 use Rattle.opening.specs.declared.TrackOpened.{TrackOpened}
@@ -29,15 +31,16 @@ use Rattle.opening.specs.declared.Lines.the-variants.{Goes, Stops}
 use Rattle.opening.proofs.Dues.{last-due}
 
 -- the work behind a part: on from where the next line begins, or refused
-unfoldable pub onward : (ℕ → Parsed) → Lines → Parsed
+unfoldable pub onward : (ℕ → Judged Graph) → Lines → Judged Graph
 onward on (Goes next) = on next
 onward on (Stops r k) = refused r k
 
-pub goes-on : {p : Parsed} (on : ℕ → Parsed) {t : Lines} {next : ℕ} → p ≡ onward on t → t ≡ Goes next → p ≡ on next
+pub goes-on : {p : Judged Graph} (on : ℕ → Judged Graph) {t : Lines} {next : ℕ} → p ≡ onward on t → t ≡ Goes next
+    → p ≡ on next
 unfolding onward
 goes-on on w e = w ∙ ap (onward on) e
 
-pub stops-there : {p : Parsed} (on : ℕ → Parsed) {t : Lines} {r k : ℕ} → p ≡ onward on t → t ≡ Stops r k
+pub stops-there : {p : Judged Graph} (on : ℕ → Judged Graph) {t : Lines} {r k : ℕ} → p ≡ onward on t → t ≡ Stops r k
     → p ≡ refused r k
 unfolding onward
 stops-there on w e = w ∙ ap (onward on) e
@@ -103,62 +106,62 @@ module _ (text : List ℕ) (meets : List ℕ → ℕ) {A B : Type 0} (of : A →
 
 -- the document's reader at line 1, and at a line that is due
 module _ (d : ℕ) where
+  abbrev first-leads-on : List ℕ → ℕ → List Raw → Judged Graph
+  first-leads-on bs next ls = judged-from (track-lines d) (behind-first (frame-of bs)) 2 ls
+
   first-frames : (next : ℕ) (ls : List Raw) (o : Option (List ℕ))
-      → choose (eqb (verdict first-refusal o) 0) (behind d (heard o) ls) (refused (verdict first-refusal o) 1)
-      ≡ by-frame (λ r. refused r 1) (λ bs. first-refusal (frame-of bs)) (λ bs next ls. behind d (frame-of bs) ls)
-      next ls o
-  unfolding by-frame verdict heard
+      → at-line 1 (λ bs. first-refusal (frame-of bs)) (λ bs. first-leads-on bs next ls) o
+      ≡ by-frame (λ r. refused r 1) (λ bs. first-refusal (frame-of bs)) first-leads-on next ls o
+  unfolding by-frame at-line
   first-frames next ls none = refl
   first-frames next ls (some bs) = refl
 
-  first-read : (at : ℕ) (ls : List Raw) → from-first d ls
-      ≡ line-read (λ r. refused r 1) (λ bs. first-refusal (frame-of bs)) (λ bs next ls. behind d (frame-of bs) ls)
-      at ls
-  unfolding line-read from-first
+  first-read : (at : ℕ) (ls : List Raw) → judged-from (track-lines d) at-start 1 ls
+      ≡ line-read (λ r. refused r 1) (λ bs. first-refusal (frame-of bs)) first-leads-on at ls
+  unfolding line-read judged-from at-end whole-at number-met stage-behind
   first-read at [] = refl
   first-read at (l ∷ ls) = first-frames (at + length (characters l) + 1) ls (frame l)
 
   module _ (n : ℕ) (x : Due) (meets : List ℕ → ℕ) (same : (bs : List ℕ) → refusal d n x (frame-of bs) ≡ meets bs)
       (ds : List Due) (g : Graph) (k : ℕ) where
-    abbrev due-leads : List ℕ → ℕ → List Raw → Parsed
+    abbrev due-leads : List ℕ → ℕ → List Raw → Judged Graph
     due-leads bs next ls = rest d n ds (taken g (frame-of bs)) (k + 1) ls
 
     due-frames : (next : ℕ) (ls : List Raw) (o : Option (List ℕ))
-        → choose (eqb (verdict (refusal d n x) o) 0) (rest d n ds (taken g (heard o)) (k + 1) ls)
-        (refused (verdict (refusal d n x) o) k)
+        → at-line k (λ bs. refusal d n x (frame-of bs)) (λ bs. due-leads bs next ls) o
         ≡ by-frame (λ r. refused r k) meets due-leads next ls o
-    unfolding by-frame verdict heard
+    unfolding by-frame at-line
     due-frames next ls none = refl
     due-frames next ls (some bs) = rw (same bs)
 
     due-read : (at : ℕ) (ls : List Raw)
         → rest d n (x ∷ ds) g k ls ≡ line-read (λ r. refused r k) meets due-leads at ls
-    unfolding line-read rest
+    unfolding line-read judged-from at-end whole-at number-met stage-behind
     due-read at [] = refl
     due-read at (l ∷ ls) = due-frames (at + length (characters l) + 1) ls (frame l)
 
 -- line 1: the work goes on by its counts
 module _ (text : List ℕ) (d : ℕ) where
-  unfoldable pub begun : TrackOpened → Parsed
+  unfoldable pub begun : TrackOpened → Judged Graph
   begun (Track n a s next) = rest d n (dues n a s) nothing 2 (lines (drop next text))
   begun (Fails r) = refused r 1
 
-  counts-lead : (next : ℕ) (f : Frame) → behind d f (lines (drop next text)) ≡ begun (counts next f)
-  unfolding begun counts behind
-  counts-lead next (opening e n a s) = refl
-  counts-lead next (node i w) = refl
-  counts-lead next (arc a) = refl
-  counts-lead next (meeting a) = refl
-  counts-lead next last = refl
-  counts-lead next wrong = refl
+  counts-lead : (next : ℕ) (f : Frame) → first-refusal f ≡ 0
+      → judged-from (track-lines d) (behind-first f) 2 (lines (drop next text)) ≡ begun (counts next f)
+  unfolding begun counts behind-first first-refusal
+  counts-lead next (opening e n a s) z = refl
+  counts-lead next (node i w) z = absurd (omega (arith, z))
+  counts-lead next (arc a) z = absurd (omega (arith, z))
+  counts-lead next (meeting a) z = absurd (omega (arith, z))
+  counts-lead next last z = absurd (omega (arith, z))
+  counts-lead next wrong z = absurd (omega (arith, z))
 
   pub first-leads : parsed d text ≡ begun (opened (lines text))
   unfolding begun opened
   first-leads =
       first-read d 0 (lines text)
       ∙ same-read text (λ bs. first-refusal (frame-of bs)) begun Fails (λ bs next ls. counts next (frame-of bs))
-      (λ r. refused r 1) (λ bs next ls. behind d (frame-of bs) ls) (λ r. refl)
-      (λ bs next z. counts-lead next (frame-of bs)) 0
+      (λ r. refused r 1) (first-leads-on d) (λ r. refl) (λ bs next z. counts-lead next (frame-of bs) z) 0
 
 -- and they keep to the rooms of a run
 unfoldable pub Fits : TrackOpened → Type 0
@@ -195,7 +198,7 @@ module _ (text : List ℕ) (d n : ℕ) (x : Due) (ds : List Due) {A : Type 0} (m
     (takes : (bs : List ℕ) → meets bs ≡ 0 → (ys : List A)
     → taken (with-all ys) (frame-of bs) ≡ with-all (ys ++ (told bs ∷ []))) where
   -- the work behind them, on line k, with what was said before them
-  abbrev led : List A → ℕ → Told A → Parsed
+  abbrev led : List A → ℕ → Told A → Judged Graph
   led ys k t = onward (λ next. rest d n ds (with-all (ys ++ t .said)) k (lines (drop next text))) (t .answer)
 
   -- so many of them, from any line and cursor on
@@ -251,16 +254,22 @@ last-met d n last = refl
 last-met d n wrong = refl
 
 module _ (text : List ℕ) (d n : ℕ) (g : Graph) (k : ℕ) where
-  abbrev ended : Lines → Parsed
-  ended = onward (λ next. says g)
+  abbrev ended : Lines → Judged Graph
+  ended = onward (λ next. accepted g)
 
   none-leads : (h : Graph) → h ≡ g → (j next : ℕ) (ls : List Raw) → rest d n [] h j ls ≡ ended (none-read j next ls)
-  unfolding onward rest none-read
-  none-leads h e j next [] = ap says e
-  none-leads h e j next (l ∷ ls) = refl
+  unfolding onward none-read by-frame judged-from at-end at-line whole-at number-met
+  none-leads h e j next [] = ap accepted e
+  none-leads h e j next (l ∷ ls) = late (frame l)
+    where
+      late : (o : Option (List ℕ))
+          → at-line j (λ bs. 2) (λ bs. judged-from (track-lines d) (stage-behind (due n [] h) bs) (j + 1) ls) o
+          ≡ ended (by-frame (λ r. Stops r j) (λ bs. 2) (λ bs at ls. Goes at) next ls o)
+      late none = refl
+      late (some bs) = refl
 
   pub last-leads : (at : ℕ) → rest d n (the-last ∷ []) g k (lines (drop at text))
-      ≡ onward (λ next. says g) (last-read k at (lines (drop at text)))
+      ≡ onward (λ next. accepted g) (last-read k at (lines (drop at text)))
   unfolding onward last-read taken
   last-leads at =
       let met : List ℕ → ℕ = λ bs. refusal 0 0 the-last (frame-of bs) in

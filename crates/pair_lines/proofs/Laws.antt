@@ -19,7 +19,8 @@ use Rattle.rules.specs.Track.{Pair}
 use Rattle.graphs.specs.Graph.{Graph}
 use Rattle.graphs.specs.Saved.{arc-code, meeting-code}
 use Rattle.graphs.specs.Parsed.{arc, meeting, pair-at, formed, Due, frame-of, an-arc, a-meeting, ends-below, unless}
-use Rattle.graphs.specs.Parsed.{refusal, taken, rest}
+use Rattle.graphs.specs.Parsed.{refusal, taken}
+use Rattle.graphs.proofs.DueLines.{rest}
 use Rattle.graphs.proofs.FrameBytes.{formed-parts}
 use Rattle.links.specs.words.Columns.{flat}
 use Rattle.opening.proofs.Dues.{fails, meets}

@@ -8,12 +8,13 @@ use native.Mathlib.Omega.{arith}
 use lib.ListN.{length, drop, replicate}
 use lib.Seq.{sets}
 use Rattle.lines.specs.Line.{lines}
+use Rattle.lines.specs.Judging.{Judged, accepted, refused}
 use Rattle.rules.specs.Track.{Label, Pair}
 use Rattle.rules.specs.Run.{node-room, arc-room, meeting-room}
 use Rattle.control.specs.words.Words.{track-words, meetings-from, reference-room}
 use Rattle.graphs.specs.Graph.{Graph}
-use Rattle.graphs.specs.Parsed.{Due, a-node, an-arc, a-meeting, the-last, dues, nothing, says, refused}
-use Rattle.graphs.specs.Parsed.{Parsed, rest, parsed}
+use Rattle.graphs.specs.Parsed.{Due, a-node, an-arc, a-meeting, the-last, dues, nothing, parsed}
+use Rattle.graphs.proofs.DueLines.{rest}
 use Rattle.links.specs.words.Columns.{flat}
 use Rattle.finding.specs.code.Found.{marks-of}
 use Rattle.opening.specs.code.Phases.{Told}
@@ -74,7 +75,7 @@ meetings-read n a s = pairs-read 0x33 n s (n + a + 2)
 -- what the whole text says, by each part in turn
 module _ (text : List ℕ) (d : ℕ) {n a s next : ℕ} (c : Counted text n a s next) where
   -- the work on line k, from a cursor on
-  abbrev ahead : List Due → Graph → ℕ → ℕ → Parsed
+  abbrev ahead : List Due → Graph → ℕ → ℕ → Judged Graph
   ahead ws g k at = rest d n ws g k (lines (drop at text))
 
   abbrev nodes : Told Label
@@ -112,7 +113,7 @@ module _ (text : List ℕ) (d : ℕ) {n a s next : ℕ} (c : Counted text n a s 
           ∙ pairs-lead text d n (the-last ∷ []) m₂ 0x33 (inr refl) (with-meetings []) s (n + a + 2)
 
       module _ {t₃ : Lines} {m₃ : ℕ} (meetings-told : t₃ ≡ meetings .answer) (meetings-go : t₃ ≡ Goes m₃) where
-        pub at-last : parsed d text ≡ onward (λ next. says (with-meetings (meetings .said)))
+        pub at-last : parsed d text ≡ onward (λ next. accepted (with-meetings (meetings .said)))
             (last-read (n + a + 2 + s) m₃ (lines (drop m₃ text)))
         at-last =
             goes-on _ at-meetings (sym meetings-told ∙ meetings-go)
@@ -135,9 +136,9 @@ module _ (text : List ℕ) (d : ℕ) (ks xs rs : List ℕ) where
   refused-done : (ls gs : List ℕ) {k l : ℕ} {r : Read} → parsed d text ≡ refused k l → r ≡ Refused k l → Done ls gs r
   unfolding answer Held
   refused-done ls gs p e =
-      (e ∙ sym (ap answer p), subst (λ (q : Parsed). Held ks xs rs q ls gs) (sym p) tt)
+      (e ∙ sym (ap answer p), subst (λ (q : Judged Graph). Held ks xs rs q ls gs) (sym p) tt)
 
-  pub stopped-done : (ls gs : List ℕ) (on : ℕ → Parsed) {u t : Lines} → parsed d text ≡ onward on u → t ≡ u
+  pub stopped-done : (ls gs : List ℕ) (on : ℕ → Judged Graph) {u t : Lines} → parsed d text ≡ onward on u → t ≡ u
       → {k l : ℕ} {r : Read} → t ≡ Stops k l → r ≡ stopped t → Done ls gs r
   unfolding stopped
   stopped-done ls gs on p told e q = refused-done ls gs (stops-there on p (sym told ∙ e)) (q ∙ ap stopped e)
@@ -164,7 +165,7 @@ module _ (text : List ℕ) (d : ℕ) (ks xs rs : List ℕ) where
       let p = goes-on _ (at-last text d c p₁ g₁ p₂ g₂ p₃ g₃) (sym p₄ ∙ g₄) in
       let counted = as-counted text d c p₁ g₁ p₂ g₂ p₃ g₃ in (
         rw (p, counted .0, counted .1, counted .2),
-        subst (λ (q : Parsed). Held ks xs rs q ls gs) (sym p) (
+        subst (λ (q : Judged Graph). Held ks xs rs q ls gs) (sym p) (
           labels-in ∙ ap (λ (u : List ℕ). sets u 0 (marks-of ks xs rs 0 (nodes-read d n text next .said))) z,
           all-in
               ∙ ap (λ (u : List ℕ). sets u meetings-from (flat (meetings-read n a s text m₂ .said)))

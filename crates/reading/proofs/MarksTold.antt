@@ -13,9 +13,10 @@ use lib.Seq.{sets}
 use lib.Dec.{eqb, ltb}
 use borrow.Author.Tests.{eqb-true, eq-eqb, ne-eqb, ltb-true, ltb-false}
 use Rattle.lines.specs.Line.{choose}
+use Rattle.lines.specs.Judging.{accepted}
 use Rattle.lines.proofs.Digits.{both}
 use Rattle.frames.specs.TableFrame.{term-room, definition-room}
-use Rattle.tables.specs.Table.{Sofar, judged, accepted}
+use Rattle.tables.specs.Table.{Sofar, judged}
 use Rattle.tables.specs.words.Columns.{kinds, payloads, afters, roots}
 use Rattle.tables.proofs.Whole.{zeros-column}
 use Rattle.terms.specs.Term.{Term, leaf, prefix, binary, size, definitions-of}

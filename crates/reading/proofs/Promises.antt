@@ -8,10 +8,10 @@ use mathlib.Core.List.{List}
 use native.Mathlib.Omega.{arith}
 use lib.ListN.{length-replicate}
 use Rattle.lines.specs.Line.{choose}
+use Rattle.lines.specs.Judging.{Judged, accepted, refused}
 use Rattle.control.specs.words.Words.{track-words}
 use Rattle.terms.specs.Term.{definitions-of}
 use Rattle.graphs.specs.Graph.{Graph}
-use Rattle.graphs.specs.Parsed.{Parsed, says, refused}
 use Rattle.graphs.specs.Shape as Shape
 use Rattle.links.specs.declared.GraphCounts.{GraphCounts}
 use Rattle.links.specs.words.Columns.{counts-of}
@@ -30,31 +30,31 @@ use Rattle.columns.specs.words.Columns.{read-columns}
 
 module _ (ks ps xs rs : List ℕ) where
   -- a text judged by its lines and then by the rules: the answer, and the columns
-  abbrev pub Judged : Parsed → List ℕ → List ℕ → Read → Type 0
-  Judged p ls gs r = (r ≡ answer (judged ks ps xs rs p)) × Held ks xs rs (judged ks ps xs rs p) ls gs
+  abbrev pub Answered : Judged Graph → List ℕ → List ℕ → Read → Type 0
+  Answered p ls gs r = (r ≡ answer (judged ks ps xs rs p)) × Held ks xs rs (judged ks ps xs rs p) ls gs
 
   -- lines that are refused
-  pub lines-refused : (p : Parsed) (ls gs : List ℕ) {r : Read} → r ≡ answer p → {n k : ℕ} → r ≡ Refused n k
-      → Judged p ls gs r
+  pub lines-refused : (p : Judged Graph) (ls gs : List ℕ) {r : Read} → r ≡ answer p → {n k : ℕ} → r ≡ Refused n k
+      → Answered p ls gs r
   unfolding judged Held answer
-  lines-refused (says g) ls gs e q = let z : _≡_ {A = ℕ} 0 1 = cc in absurd (omega arith)
+  lines-refused (accepted g) ls gs e q = let z : _≡_ {A = ℕ} 0 1 = cc in absurd (omega arith)
   lines-refused (refused n k) ls gs e q = (e, tt)
 
   -- where lines are accepted, the tests of the rules decide
-  decided : (g : Graph) (ls gs : List ℕ) {r : Read} → r ≡ answer (says g) → Held ks xs rs (says g) ls gs
+  decided : (g : Graph) (ls gs : List ℕ) {r : Read} → r ≡ answer (accepted g) → Held ks xs rs (accepted g) ls gs
       → (s : Bool) {v : Bool} → not s ≡ v
-      → (choose v (Refused 13 0) r ≡ answer (choose s (says g) (refused 13 0)))
-      × Held ks xs rs (choose s (says g) (refused 13 0)) ls gs
+      → (choose v (Refused 13 0) r ≡ answer (choose s (accepted g) (refused 13 0)))
+      × Held ks xs rs (choose s (accepted g) (refused 13 0)) ls gs
   unfolding Held answer
   decided g ls gs e h true is = (rw (← is) e, h)
   decided g ls gs e h false is = (rw (← is), tt)
 
-  pub rules-decide : (p : Parsed) (ls gs : List ℕ) {r : Read} → r ≡ answer p → Held ks xs rs p ls gs
+  pub rules-decide : (p : Judged Graph) (ls gs : List ℕ) {r : Read} → r ≡ answer p → Held ks xs rs p ls gs
       → {c : GraphCounts} → r ≡ Accepted c → {b : Bool}
       → b ≡ has-shape ks ps xs ls gs (c .nodes) (c .arcs) (c .meetings) → {v : Bool} → not b ≡ v
-      → Judged p ls gs (choose v (Refused 13 0) (Accepted c))
+      → Answered p ls gs (choose v (Refused 13 0) (Accepted c))
   unfolding judged Held answer
-  rules-decide (says g) ls gs e h {c} q {b} tested is =
+  rules-decide (accepted g) ls gs e h {c} q {b} tested is =
       let counted : counts-of g ≡ c = cc in
       let long = length-replicate {A = ℕ} track-words 0 in
       let shape : b ≡ shaped ks ps xs (marks-of ks xs rs 0 (g .labels)) g =
@@ -76,10 +76,10 @@ handed-old new old e = rw e
 
 -- so columns are as they should be afterwards
 module _ (ks ps xs rs : List ℕ) where
-  pub handed-over : (p : Parsed) (labels graph ls gs : List ℕ) {r : Read} → r ≡ answer p → Held ks xs rs p ls gs
+  pub handed-over : (p : Judged Graph) (labels graph ls gs : List ℕ) {r : Read} → r ≡ answer p → Held ks xs rs p ls gs
       → (handed r ls labels ≡ labels-left ks ps xs rs p labels) × (handed r gs graph ≡ graph-left p graph)
   unfolding Held answer handed labels-left graph-left
-  handed-over (says g) labels graph ls gs e h =
+  handed-over (accepted g) labels graph ls gs e h =
       (ap (λ (r : Read). handed r ls labels) e ∙ h .0, ap (λ (r : Read). handed r gs graph) e ∙ h .1)
   handed-over (refused n k) labels graph ls gs e h =
       (ap (λ (r : Read). handed r ls labels) e, ap (λ (r : Read). handed r gs graph) e)
@@ -94,6 +94,6 @@ reads d ks ps xs rs t labels graph r labels′ graph′ e f h text os s table ma
     rw (many, table .kinds-are, table .payloads-are, table .after-are, table .roots-are)
     (outcome-told text s (table .checked) t) in (
       e ∙ ap answer same,
-      f ∙ ap (λ (p : Parsed). labels-left ks ps xs rs p labels) same,
-      h ∙ ap (λ (p : Parsed). graph-left p graph) same,
+      f ∙ ap (λ (p : Judged Graph). labels-left ks ps xs rs p labels) same,
+      h ∙ ap (λ (p : Judged Graph). graph-left p graph) same,
     )

@@ -10,9 +10,10 @@ use lib.ListN.{length, replicate}
 use lib.Dec.{leb, ltb, eqb}
 use borrow.Author.Tests.{ltb-true, eqb-true}
 use Rattle.lines.specs.Line.{choose}
+use Rattle.lines.specs.Judging.{Judged, accepted, refused}
 use Rattle.lines.proofs.Digits.{both}
 use Rattle.frames.specs.TableFrame.{path-room}
-use Rattle.tables.specs.Table.{Sofar, judged, accepted}
+use Rattle.tables.specs.Table.{Sofar, judged}
 use Rattle.tables.specs.words.Columns.{kinds, payloads, afters, roots}
 use Rattle.terms.specs.Term.{Term, definitions-of}
 use Rattle.terms.proofs.Trees.{checked-trees}
@@ -20,7 +21,7 @@ use Rattle.rules.specs.Track.{Label, Pair}
 use Rattle.rules.specs.Run.{node-room, arc-room}
 use Rattle.rules.proofs.Marked.{one, tally}
 use Rattle.graphs.specs.Graph.{Graph}
-use Rattle.graphs.specs.Parsed.{Parsed, says, refused, parsed, in-range}
+use Rattle.graphs.specs.Parsed.{parsed, in-range}
 use Rattle.graphs.specs.Shape.{same, every, in-order, placed, branches, ascends, upward, from-on}
 use Rattle.graphs.specs.Shape as Shape
 use Rattle.graphs.proofs.Spelled.{Each, each-none, each-first, LabelFits, says-text}
@@ -125,13 +126,13 @@ module _ (text : List ℕ) (s : Sofar) (q : judged text ≡ accepted s) where
         _ _ (marks-shaped text s q below) (λ i p. (fit-told i p, (as-walked-told i p, meetings-told i p)))
 
   -- what is judged by marks of what a text says is what the document judges of it
-  judged-told : (t : List ℕ) (p : Parsed) → parsed (length ts) t ≡ p
+  judged-told : (t : List ℕ) (p : Judged Graph) → parsed (length ts) t ≡ p
       → Outcome.judged (kinds s) (payloads s) (afters s) (roots s) p ≡ Shape.judged ts p
   unfolding Outcome.judged Shape.judged
-  judged-told t (says g) e =
+  judged-told t (accepted g) e =
       let table = checked-trees text s q in
       let fits = says-text (length ts) (omega arith) t e .1 in
-      ap (λ (b : Bool). choose b (says g) (refused 13 0))
+      ap (λ (b : Bool). choose b (accepted g) (refused 13 0))
       (rules-told g (labels-below (fits .labels-fit)) (fits .labels-room) (fits .arcs-room))
   judged-told t (refused n k) e = refl
 

@@ -3,8 +3,8 @@ use Prim.Native.Nat.{ℕ, _+_}
 use mathlib.Core.List.{List, [], _∷_}
 use Rattle.lines.specs.Line.{Raw, frame}
 use Rattle.graphs.specs.Parsed.{Frame, opening, node, arc, meeting, last, wrong, frame-of, the-last, refusal}
-use Rattle.graphs.specs.Parsed.{first-refusal, verdict}
-use Rattle.opening.specs.code.Phases.{line-read}
+use Rattle.graphs.specs.Parsed.{first-refusal}
+use Rattle.opening.specs.code.Phases.{by-frame, line-read}
 use Rattle.opening.specs.declared.TrackOpened.{TrackOpened}
 use Rattle.opening.specs.declared.TrackOpened.the-variants.{Track, Fails}
 use Rattle.opening.specs.declared.Lines.{Lines}
@@ -26,7 +26,7 @@ opened = line-read Fails (λ bs. first-refusal (frame-of bs)) (λ bs next ls. co
 -- behind the last line any line is a frame out of place
 unfoldable pub none-read : ℕ → ℕ → List Raw → Lines
 none-read k at [] = Goes at
-none-read k at (l ∷ ls) = Stops (verdict (λ f. 2) (frame l)) k
+none-read k at (l ∷ ls) = by-frame (λ r. Stops r k) (λ bs. 2) (λ bs next ls. Goes next) at ls (frame l)
 
 -- the last line, line k, and what stands behind it; no range bears on it
 unfoldable pub last-read : ℕ → ℕ → List Raw → Lines
