@@ -3,10 +3,11 @@
     python3 tests/checks/gate.py
 
 It holds the layout of the sources and runs the unit tests; then `rt ci`, once, which proves every crate from
-nothing and builds target/bin; and then the kept cases and the comparisons on what that built. All output is shown
-as it comes, but for the last line of `rt ci`, 'N passed, 0 failed': that is held back until everything has passed,
-and stands last, behind the seconds that each part took. The first command that fails ends the run with status 1, and
-the last line tells which it was. An interrupt ends the command that is under way.
+nothing and builds target/bin, two crates or edits at a time for every processor, or as many as RT_JOBS says; and then
+the kept cases and the comparisons on what that built. All output is shown as it comes, but for the last line of
+`rt ci`, 'N passed, 0 failed': that is held back until everything has passed, and stands last, behind the seconds that
+each part took. The first command that fails ends the run with status 1, and the last line tells which it was. An
+interrupt ends the command that is under way.
 """
 
 import argparse
@@ -22,6 +23,8 @@ from typing import NamedTuple
 
 REPOSITORY = pathlib.Path(__file__).resolve().parents[2]
 RT_CI = ("rt", "ci")
+# `rt` proves crates, and tries edits, in batches and waits for the slowest of each: two for every processor leave none idle
+RT_JOBS = str(2 * (os.cpu_count() or 1))
 ALL_PASSED = re.compile(rb"[1-9][0-9]* passed, 0 failed\n")
 SECONDS_TO_TIDY_UP = 1
 FAILURE, INTERRUPTION = 1, 130  # exit statuses
@@ -110,7 +113,8 @@ def run_part(part):
 def run_rt_ci():
     """Shows what `rt ci` prints, but for a last line that tells that all has passed; gives that line."""
     held = b""
-    with started(RT_CI, stdout=subprocess.PIPE, stderr=subprocess.STDOUT) as child:
+    environment = {"RT_JOBS": RT_JOBS, **os.environ}
+    with started(RT_CI, env=environment, stdout=subprocess.PIPE, stderr=subprocess.STDOUT) as child:
         for line in child.stdout:
             show(held)
             held = line if ALL_PASSED.fullmatch(line) else b""

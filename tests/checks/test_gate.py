@@ -34,9 +34,9 @@ class Gate(unittest.TestCase):
         rt.write_text(f'#!/bin/sh\n[ "$*" = ci ] || exit 9\ncd "{self.folder}"\n{script}\n', "utf-8")
         rt.chmod(0o755)
 
-    def start(self, first="echo first", later="echo later", last="echo last"):
+    def start(self, first="echo first", later="echo later", last="echo last", **variables):
         command = [sys.executable, "-B", "-c", RUN, first, later, last]
-        environment = {"PATH": str(self.folder), "PYTHONPATH": str(REPOSITORY)}
+        environment = {"PATH": str(self.folder), "PYTHONPATH": str(REPOSITORY), **variables}
         return subprocess.Popen(command, stdout=subprocess.PIPE, stderr=subprocess.STDOUT, env=environment, text=True)
 
     def outcome(self, rt_ci, **commands):
@@ -103,6 +103,16 @@ class Shown(Gate):
             self.assertEqual([gate.stdout.readline() for _ in range(2)], ["first\n", "a proved\n"])
             (self.folder / "go").touch()
             self.assertEqual(gate.stdout.read().splitlines()[-1], PASSED)
+
+
+class AtATime(Gate):
+    RT_CI = f"echo $RT_JOBS; echo {PASSED}"
+
+    def test_two_for_every_processor(self):
+        self.assertEqual(self.outcome(self.RT_CI)[0][1], str(2 * os.cpu_count()))
+
+    def test_as_many_as_are_asked_for(self):
+        self.assertEqual(self.outcome(self.RT_CI, RT_JOBS="1")[0][1], "1")
 
 
 class Interrupts(Gate):

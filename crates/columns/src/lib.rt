@@ -24,11 +24,11 @@ pub fn kind_of(n: usize, kinds: &Kinds) -> u8
     if n < TERM_ROOM { kinds[n] } else { 0 }
 }
 
-// The set of a term, which is its payload.
-pub fn set_of(t: usize, sets: &Payloads) -> u64
-    ensures { λ r. ⌜ r ≡ look term-room (now (sets .entry)) t ⌝ }
+// The payload of a term: a call's definition, a prefix's event, a parallel's set.
+pub fn payload_of(n: usize, payloads: &Payloads) -> u64
+    ensures { λ r. ⌜ r ≡ look term-room (now (payloads .entry)) n ⌝ }
 {
-    if t < TERM_ROOM { sets[t] } else { 0 }
+    if n < TERM_ROOM { payloads[n] } else { 0 }
 }
 
 // The definition that a term stands in.

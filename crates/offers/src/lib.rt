@@ -2,7 +2,7 @@
 // it downward. Nothing is written. It relies on the plan of the table, the words of the run, and what sides offer
 // together.
 use columns::Payloads;
-use columns::set_of;
+use columns::payload_of;
 use control::ENTERED;
 use control::FIRST_SIDE;
 use control::FRAME;
@@ -97,7 +97,7 @@ fn offers_at(
     let both = both_ended(first, second, nodes);
     settled(
         nested,
-        combined(kind_of(term, plan), set_of(term, sets), both, l, r),
+        combined(kind_of(term, plan), payload_of(term, sets), both, l, r),
     )
 }
 
@@ -120,7 +120,7 @@ fn offers_of_term(t: usize, left: usize, plan: &Plan, sets: &Payloads) -> Offere
         return settled(true, l);
     }
     let r = offers_of_term(second_of(t, plan), left - 1, plan, sets);
-    combined(kind, set_of(t, sets), false, l, r)
+    combined(kind, payload_of(t, sets), false, l, r)
 }
 
 // Whether a sequence is around the term that stands at reference n, up to a bound.

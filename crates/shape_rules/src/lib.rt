@@ -1,7 +1,7 @@
 // The reader's rules that are tested item by item, on a graph in columns: a loop for each, which the first item that breaks the
 // rule ends. It relies on the words of a track and on marks.
 use columns::Payloads;
-use columns::set_of;
+use columns::payload_of;
 use control::MEETINGS_FROM;
 use control::Track;
 use control::track_word;
@@ -100,5 +100,5 @@ fn of_one_event(first: usize, second: usize, payloads: &Payloads) -> bool
     if !is_event(second) {
         return false;
     }
-    set_of(term_of(first), payloads) == set_of(term_of(second), payloads)
+    payload_of(term_of(first), payloads) == payload_of(term_of(second), payloads)
 }

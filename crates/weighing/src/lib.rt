@@ -1,7 +1,7 @@
 // Weighing a step: what the derivation that an address names would show and add, read off the control and the
 // terms below it, from the outside inward. Nothing is written. The recursion goes at most 2,048 calls deep.
 use columns::Payloads;
-use columns::set_of;
+use columns::payload_of;
 use control::ENTERED;
 use control::FRAME;
 use control::Nodes;
@@ -79,7 +79,7 @@ fn weigh_term(
     }
     let second = second_of(t, plan);
     let next = sum(at, 1);
-    let set = set_of(t, sets);
+    let set = payload_of(t, sets);
     let larger = sum(size, 2);
     let taken = taken(digit, first, second);
     let found = entering(
@@ -154,7 +154,7 @@ pub fn weigh_at(
     }
     let second = second_of(term, plan);
     let next = sum(at, 1);
-    let set = set_of(term, sets);
+    let set = payload_of(term, sets);
     let less = left - 1;
     let inside = inside_of(kind, term, n, frame, plan);
     let side = taken(digit, 1, 2);

@@ -16,7 +16,7 @@ use Rattle.offers.proofs.first_of.Reads as first-of-reads
 use Rattle.offers.proofs.followed.Reads as followed-reads
 use Rattle.offers.proofs.inside.Reads as inside-reads
 use Rattle.offers.proofs.offers_of_term.Reads as offers-of-term-reads
-use Rattle.columns.proofs.set_of.Reads as set-of-reads
+use Rattle.columns.proofs.payload_of.Reads as payload-of-reads
 use Rattle.offering.proofs.settled.Reads as settled-reads
 use Rattle.offering.proofs.unseen.Reads as unseen-reads
 use Rattle.plans.proofs.kind_of.Reads as kind-of-reads
@@ -58,8 +58,8 @@ K t = (
   both-ended-reads.Learnt,
   kind-of-reads.Asked,
   kind-of-reads.Learnt,
-  set-of-reads.Asked,
-  set-of-reads.Learnt,
+  payload-of-reads.Asked,
+  payload-of-reads.Learnt,
   combined-reads.Asked,
   combined-reads.Learnt,
 )
@@ -146,8 +146,8 @@ module _ (t : ℕ) where
   kind-of-requires : offers-at-lts.Need-kind-of-requires (K t) (given t) offers-at.Post
   kind-of-requires c κs = search needs
 
-  set-of-requires : offers-at-lts.Need-set-of-requires (K t) (given t) offers-at.Post
-  set-of-requires c κs = search needs
+  payload-of-requires : offers-at-lts.Need-set-of-requires (K t) (given t) offers-at.Post
+  payload-of-requires c κs = search needs
 
   combined-requires : offers-at-lts.Need-combined-requires (K t) (given t) offers-at.Post
   combined-requires c κs = search needs
@@ -168,7 +168,7 @@ module _ (t : ℕ) where
       (n .before .word2 .ensures) (n .followed .ensures) (c .settled2 .ensures) _ _ _ _ _ _ _ _ _ _
       (l .before .before .before .word3 .ensures) (l .before .before .word4 .ensures) (e .inside .ensures)
       (l .before .first-of .ensures) (r .before .second-of .ensures) (k .kind-of .ensures)
-      (c .before .before .set-of .ensures) (k .before .both-ended .ensures) (l .offers-at .ensures)
+      (c .before .before .payload-of .ensures) (k .before .both-ended .ensures) (l .offers-at .ensures)
       (r .offers-at2 .ensures) (n .before .before .if3 .left) (e .before .if4 .left) (c .before .combined .ensures)
 
 pub +offers-at-spec : {M : Type 1} → statement M
@@ -198,7 +198,7 @@ pub +offers-at-spec : {M : Type 1} → statement M
     (offers-at-requires-2 t)
     (both-ended-requires t)
     (kind-of-requires t)
-    (set-of-requires t)
+    (payload-of-requires t)
     (combined-requires t)
     (settled-requires-2 t)
     (returns-5 t)

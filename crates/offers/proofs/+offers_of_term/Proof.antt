@@ -11,7 +11,7 @@ use Rattle.offers.proofs.+offers_of_term.Lts-offers_of_term as offers-o
 use Rattle.offering.proofs.combined.Reads as combined-reads
 use Rattle.offers.proofs.first_of.Reads as first-of-reads
 use Rattle.offering.proofs.own.Reads as own-reads
-use Rattle.columns.proofs.set_of.Reads as set-of-reads
+use Rattle.columns.proofs.payload_of.Reads as payload-of-reads
 use Rattle.offering.proofs.settled.Reads as settled-reads
 use Rattle.offering.proofs.unseen.Reads as unseen-reads
 use Rattle.plans.proofs.kind_of.Reads as kind-of-reads
@@ -49,8 +49,8 @@ K t = (
   settled-reads.Learnt,
   second-of-reads.Asked,
   second-of-reads.Learnt,
-  set-of-reads.Asked,
-  set-of-reads.Learnt,
+  payload-of-reads.Asked,
+  payload-of-reads.Learnt,
   combined-reads.Asked,
   combined-reads.Learnt,
 )
@@ -120,8 +120,8 @@ module _ (t : ℕ) where
   offers-of-term-requires-2 : offers-of-term-lts.Need-offers-of-term-requires-2 (K t) (given t) offers-of-term.Post
   offers-of-term-requires-2 c κs = search needs
 
-  set-of-requires : offers-of-term-lts.Need-set-of-requires (K t) (given t) offers-of-term.Post
-  set-of-requires c κs = search needs
+  payload-of-requires : offers-of-term-lts.Need-set-of-requires (K t) (given t) offers-of-term.Post
+  payload-of-requires c κs = search needs
 
   combined-requires : offers-of-term-lts.Need-combined-requires (K t) (given t) offers-of-term.Post
   combined-requires c κs = search needs
@@ -134,7 +134,7 @@ module _ (t : ℕ) where
       let more = one-less _ (k .before .if1 .left) in
       term-split _ _ _ _ _ _ more (k .kind-of .ensures) _ _ _ (l .before .first-of .ensures)
       (l .offers-of-term .ensures) _ _ _ (r .before .second-of .ensures) (r .offers-of-term2 .ensures)
-      (c .before .set-of .ensures) (l .before .before .before .if2 .left) (l .before .before .if3 .left)
+      (c .before .payload-of .ensures) (l .before .before .before .if2 .left) (l .before .before .if3 .left)
       (r .before .before .if4 .left) (c .combined .ensures)
 
 pub +offers-of-term-spec : {M : Type 1} → statement M
@@ -158,6 +158,6 @@ pub +offers-of-term-spec : {M : Type 1} → statement M
     (second-of-requires t)
     (sub-offers-of-term-2 t)
     (offers-of-term-requires-2 t)
-    (set-of-requires t)
+    (payload-of-requires t)
     (combined-requires t)
     (returns-5 t)

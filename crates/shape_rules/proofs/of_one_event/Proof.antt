@@ -29,14 +29,14 @@ returns-2 c =
 term-of-requires : tie.Need-term-of-requires
 term-of-requires c κs = search needs
 
-set-of-requires : tie.Need-set-of-requires
-set-of-requires c κs = search needs
+payload-of-requires : tie.Need-set-of-requires
+payload-of-requires c κs = search needs
 
 term-of-requires-2 : tie.Need-term-of-requires-2
 term-of-requires-2 c κs = search needs
 
-set-of-requires-2 : tie.Need-set-of-requires-2
-set-of-requires-2 c κs = search needs
+payload-of-requires-2 : tie.Need-set-of-requires-2
+payload-of-requires-2 c κs = search needs
 
 returns-3 : tie.Need-returns-3
 unfolding one-event
@@ -47,8 +47,8 @@ returns-3 c =
     rule-met (told-met (first .before .is-event .ensures) (first .if1 .left))
     (rule-met (told-met (second .before .is-event2 .ensures) (second .if2 .left))
     (ap₂ eqb
-    (read-first .set-of .ensures ∙ ap (look term-room _) (read-first .before .term-of .ensures))
-    (c .set-of2 .ensures ∙ ap (look term-room _) (c .before .term-of2 .ensures))))
+    (read-first .payload-of .ensures ∙ ap (look term-room _) (read-first .before .term-of .ensures))
+    (c .payload-of2 .ensures ∙ ap (look term-room _) (c .before .term-of2 .ensures))))
 
 pub of-one-event-spec : {M : Type 1} → statement M
 of-one-event-spec =
@@ -59,7 +59,7 @@ of-one-event-spec =
     is-event-requires-2
     returns-2
     term-of-requires
-    set-of-requires
+    payload-of-requires
     term-of-requires-2
-    set-of-requires-2
+    payload-of-requires-2
     returns-3)

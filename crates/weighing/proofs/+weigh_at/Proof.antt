@@ -19,7 +19,7 @@ use Rattle.looking.proofs.digit_at.Reads as digit-at-reads
 use Rattle.looking.proofs.inside_of.Reads as inside-of-reads
 use Rattle.looking.proofs.is_side.Reads as is-side-reads
 use Rattle.looking.proofs.is_within.Reads as is-within-reads
-use Rattle.columns.proofs.set_of.Reads as set-of-reads
+use Rattle.columns.proofs.payload_of.Reads as payload-of-reads
 use Rattle.looking.proofs.taken.Reads as taken-reads
 use Rattle.weighing.proofs.weigh_end.Reads as weigh-end-reads
 use Rattle.weights.proofs.both.Reads as both-reads
@@ -66,8 +66,8 @@ K t = (
   second-of-reads.Learnt,
   sum-reads.Asked,
   sum-reads.Learnt,
-  set-of-reads.Asked,
-  set-of-reads.Learnt,
+  payload-of-reads.Asked,
+  payload-of-reads.Learnt,
   inside-of-reads.Asked,
   inside-of-reads.Learnt,
   taken-reads.Asked,
@@ -133,7 +133,7 @@ module _ (t : ℕ) where
       Crossed (a .plan .now) (a .sets .now) (a .count) (a .digits .now) (a .nodes .now) (a .track .now)
       (a .arcs) (a .n) (a .at) (a .left - 1) (w .before .word2 .result) (w .word3 .result)
       (l .before .before .before .kind-of .result) (l .before .before .digit-at .result)
-      (s .before .before .before .second-of .result) (s .before .set-of .result)
+      (s .before .before .before .second-of .result) (s .before .payload-of .result)
       (s .inside-of .result) (c .before .before .before .before .before .word4 .result)
       (c .before .before .before .before .word5 .result) (c .weigh-at .result)
   crossed c =
@@ -142,7 +142,7 @@ module _ (t : ℕ) where
         second-is = s .before .before .before .second-of .ensures;
         next = s .before .before .sum .result;
         next-is = s .before .before .sum .ensures;
-        set-is = s .before .set-of .ensures;
+        set-is = s .before .payload-of .ensures;
         inside-is = s .inside-of .ensures;
         side = c .before .before .before .before .before .before .taken .result;
         side-is = c .before .before .before .before .before .before .taken .ensures;
@@ -221,8 +221,8 @@ module _ (t : ℕ) where
   sum-requires : weigh-at-lts.Need-sum-requires (K t) (given t) weigh-at.Post
   sum-requires c κs = search needs
 
-  set-of-requires : weigh-at-lts.Need-set-of-requires (K t) (given t) weigh-at.Post
-  set-of-requires c κs = search needs
+  payload-of-requires : weigh-at-lts.Need-set-of-requires (K t) (given t) weigh-at.Post
+  payload-of-requires c κs = search needs
 
   sub-less : weigh-at-lts.Need-sub-less (K t) (given t) weigh-at.Post
   sub-less c =
@@ -337,7 +337,7 @@ pub +weigh-at-spec : {M : Type 1} → statement M
     (returns-6 t)
     (second-of-requires t)
     (sum-requires t)
-    (set-of-requires t)
+    (payload-of-requires t)
     (sub-less t)
     (inside-of-requires t)
     (taken-requires t)

@@ -17,7 +17,7 @@ use Rattle.looking.proofs.digit_at.Reads as digit-at-reads
 use Rattle.looking.proofs.is_side.Reads as is-side-reads
 use Rattle.looking.proofs.is_split.Reads as is-split-reads
 use Rattle.looking.proofs.is_within.Reads as is-within-reads
-use Rattle.columns.proofs.set_of.Reads as set-of-reads
+use Rattle.columns.proofs.payload_of.Reads as payload-of-reads
 use Rattle.looking.proofs.taken.Reads as taken-reads
 use Rattle.weights.proofs.both.Reads as both-reads
 use Rattle.weights.proofs.by_leaf.Reads as by-leaf-reads
@@ -63,8 +63,8 @@ K t = (
   is-side-reads.Learnt,
   second-of-reads.Asked,
   second-of-reads.Learnt,
-  set-of-reads.Asked,
-  set-of-reads.Learnt,
+  payload-of-reads.Asked,
+  payload-of-reads.Learnt,
   taken-reads.Asked,
   taken-reads.Learnt,
   entering-reads.Asked,
@@ -104,7 +104,7 @@ module _ (t : ℕ) where
       let d = s .before .before .before .before .before .before .before in
       let a = d .before .before .before .before .before .args in
       Sided (a .plan .now) (a .sets .now) (a .count) (a .digits .now) (a .t) (a .at) (a .size) (a .left - 1)
-      (d .digit-at .result) (s .second-of .result) (c .before .before .before .before .set-of .result)
+      (d .digit-at .result) (s .second-of .result) (c .before .before .before .before .payload-of .result)
       (c .before .before .before .sum4 .result) (c .entering .result)
   sided c =
       let s = c .before .before .before .before .before .before in
@@ -115,7 +115,7 @@ module _ (t : ℕ) where
         second-is = s .second-of .ensures;
         next = c .before .before .before .before .before .sum3 .result;
         next-is = c .before .before .before .before .before .sum3 .ensures;
-        set-is = c .before .before .before .before .set-of .ensures;
+        set-is = c .before .before .before .before .payload-of .ensures;
         larger-is = c .before .before .before .sum4 .ensures;
         gone = c .before .before .taken .result;
         gone-is = c .before .before .taken .ensures;
@@ -187,8 +187,8 @@ module _ (t : ℕ) where
   sum-requires-3 : weigh-term-lts.Need-sum-requires-3 (K t) (given t) weigh-term.Post
   sum-requires-3 c κs = search needs
 
-  set-of-requires : weigh-term-lts.Need-set-of-requires (K t) (given t) weigh-term.Post
-  set-of-requires c κs = search needs
+  payload-of-requires : weigh-term-lts.Need-set-of-requires (K t) (given t) weigh-term.Post
+  payload-of-requires c κs = search needs
 
   sum-requires-4 : weigh-term-lts.Need-sum-requires-4 (K t) (given t) weigh-term.Post
   sum-requires-4 c κs = search needs
@@ -261,7 +261,7 @@ pub +weigh-term-spec : {M : Type 1} → statement M
     (returns-4 t)
     (second-of-requires t)
     (sum-requires-3 t)
-    (set-of-requires t)
+    (payload-of-requires t)
     (sum-requires-4 t)
     (taken-requires t)
     (weigh-term-requires-2 t)
