@@ -111,7 +111,7 @@ fn say_place(literal: Literal, kinds: &Kinds, owners: &Owners, after: &After, ro
     let placed = place(literal, kinds, owners, after, roots, &mut path);
     match placed {
         Placed::At { definition, length } => {
-            say_number(wide(definition));
+            say_number(definition as u64);
             say_gap(length);
             say_path(&path, length);
         }
@@ -198,8 +198,4 @@ fn say_number(n: u64) {
 
 fn end_line() {
     io::write_all(STANDARD_OUTPUT, b"\n");
-}
-
-fn wide(x: u8) -> u64 {
-    x as u64
 }

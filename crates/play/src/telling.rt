@@ -4,6 +4,7 @@ use columns::Kinds;
 use columns::Owners;
 use columns::Payloads;
 use columns::Roots;
+use columns::wide;
 use control::Counters;
 use control::LABEL;
 use control::MEETINGS_FROM;
@@ -153,8 +154,4 @@ fn tell_word(x: usize) {
 
 fn end_line() {
     io::write_all(STANDARD_OUTPUT, b"\n");
-}
-
-fn wide(x: u16) -> usize {
-    x as usize
 }

@@ -146,7 +146,7 @@ module _ (t : ℕ) where
   kind-of-requires : offers-at-lts.Need-kind-of-requires (K t) (given t) offers-at.Post
   kind-of-requires c κs = search needs
 
-  payload-of-requires : offers-at-lts.Need-set-of-requires (K t) (given t) offers-at.Post
+  payload-of-requires : offers-at-lts.Need-payload-of-requires (K t) (given t) offers-at.Post
   payload-of-requires c κs = search needs
 
   combined-requires : offers-at-lts.Need-combined-requires (K t) (given t) offers-at.Post

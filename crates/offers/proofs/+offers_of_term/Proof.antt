@@ -120,7 +120,7 @@ module _ (t : ℕ) where
   offers-of-term-requires-2 : offers-of-term-lts.Need-offers-of-term-requires-2 (K t) (given t) offers-of-term.Post
   offers-of-term-requires-2 c κs = search needs
 
-  payload-of-requires : offers-of-term-lts.Need-set-of-requires (K t) (given t) offers-of-term.Post
+  payload-of-requires : offers-of-term-lts.Need-payload-of-requires (K t) (given t) offers-of-term.Post
   payload-of-requires c κs = search needs
 
   combined-requires : offers-of-term-lts.Need-combined-requires (K t) (given t) offers-of-term.Post

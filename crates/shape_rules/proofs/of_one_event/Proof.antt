@@ -29,13 +29,13 @@ returns-2 c =
 term-of-requires : tie.Need-term-of-requires
 term-of-requires c κs = search needs
 
-payload-of-requires : tie.Need-set-of-requires
+payload-of-requires : tie.Need-payload-of-requires
 payload-of-requires c κs = search needs
 
 term-of-requires-2 : tie.Need-term-of-requires-2
 term-of-requires-2 c κs = search needs
 
-payload-of-requires-2 : tie.Need-set-of-requires-2
+payload-of-requires-2 : tie.Need-payload-of-requires-2
 payload-of-requires-2 c κs = search needs
 
 returns-3 : tie.Need-returns-3

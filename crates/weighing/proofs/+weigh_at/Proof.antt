@@ -221,7 +221,7 @@ module _ (t : ℕ) where
   sum-requires : weigh-at-lts.Need-sum-requires (K t) (given t) weigh-at.Post
   sum-requires c κs = search needs
 
-  payload-of-requires : weigh-at-lts.Need-set-of-requires (K t) (given t) weigh-at.Post
+  payload-of-requires : weigh-at-lts.Need-payload-of-requires (K t) (given t) weigh-at.Post
   payload-of-requires c κs = search needs
 
   sub-less : weigh-at-lts.Need-sub-less (K t) (given t) weigh-at.Post

@@ -187,7 +187,7 @@ module _ (t : ℕ) where
   sum-requires-3 : weigh-term-lts.Need-sum-requires-3 (K t) (given t) weigh-term.Post
   sum-requires-3 c κs = search needs
 
-  payload-of-requires : weigh-term-lts.Need-set-of-requires (K t) (given t) weigh-term.Post
+  payload-of-requires : weigh-term-lts.Need-payload-of-requires (K t) (given t) weigh-term.Post
   payload-of-requires c κs = search needs
 
   sum-requires-4 : weigh-term-lts.Need-sum-requires-4 (K t) (given t) weigh-term.Post
