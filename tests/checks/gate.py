@@ -3,11 +3,11 @@
     python3 tests/checks/gate.py
 
 It holds the layout of the sources and runs the unit tests; then `rt ci`, once, which proves every crate from
-nothing and builds target/bin, two crates or edits at a time for every processor, or as many as RT_JOBS says; and then
-the kept cases and the comparisons on what that built. All output is shown as it comes, but for the last line of
-`rt ci`, 'N passed, 0 failed': that is held back until everything has passed, and stands last, behind the seconds that
-each part took. The first command that fails ends the run with status 1, and the last line tells which it was. An
-interrupt ends the command that is under way.
+nothing and builds target/bin, two crates or edits at a time for every processor, or as many as RT_JOBS says, and with
+its temporary files in memory where there is room, or where TMPDIR says; and then the kept cases and the comparisons on
+what that built. All output is shown as it comes, but for the last line of `rt ci`, 'N passed, 0 failed': that is held
+back until everything has passed, and stands last, behind the seconds that each part took. The first command that fails
+ends the run with status 1, and the last line tells which it was. An interrupt ends the command that is under way.
 """
 
 import argparse
@@ -18,13 +18,16 @@ import re
 import signal
 import subprocess
 import sys
+import tempfile
 import time
 from typing import NamedTuple
 
 REPOSITORY = pathlib.Path(__file__).resolve().parents[2]
 RT_CI = ("rt", "ci")
 # `rt` proves crates, and tries edits, in batches and waits for the slowest of each: two for every processor leave none idle
-RT_JOBS = str(2 * (os.cpu_count() or 1))
+RT_JOBS = 2 * (os.cpu_count() or 1)
+MEMORY = pathlib.Path("/dev/shm")
+BYTES_FOR_A_JOB = 2**30
 ALL_PASSED = re.compile(rb"[1-9][0-9]* passed, 0 failed\n")
 SECONDS_TO_TIDY_UP = 1
 FAILURE, INTERRUPTION = 1, 130  # exit statuses
@@ -110,11 +113,30 @@ def run_part(part):
             pass
 
 
+def memory_serves():
+    """Whether there is a folder in memory with room for every job, and for programs to be run there."""
+    try:
+        about = os.statvfs(MEMORY)
+    except OSError:
+        return False
+    roomy = about.f_bavail * about.f_frsize >= RT_JOBS * BYTES_FOR_A_JOB
+    return roomy and not about.f_flag & os.ST_NOEXEC and os.access(MEMORY, os.W_OK)
+
+
+@contextlib.contextmanager
+def surroundings():
+    """What `rt` is run in, but for what is set already: so many jobs, and a folder for what it copies for each of them."""
+    with tempfile.TemporaryDirectory(dir=MEMORY if memory_serves() else None) as folder:
+        os.chmod(folder, 0o711)  # rt runs programs as nobody
+        yield {"RT_JOBS": str(RT_JOBS), "TMPDIR": folder, **os.environ}
+
+
 def run_rt_ci():
     """Shows what `rt ci` prints, but for a last line that tells that all has passed; gives that line."""
     held = b""
-    environment = {"RT_JOBS": RT_JOBS, **os.environ}
-    with started(RT_CI, env=environment, stdout=subprocess.PIPE, stderr=subprocess.STDOUT) as child:
+    with surroundings() as environment, started(
+        RT_CI, env=environment, stdout=subprocess.PIPE, stderr=subprocess.STDOUT
+    ) as child:
         for line in child.stdout:
             show(held)
             held = line if ALL_PASSED.fullmatch(line) else b""

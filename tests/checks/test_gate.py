@@ -8,6 +8,7 @@ import sys
 import tempfile
 import unittest
 
+from tests.checks.gate import MEMORY, memory_serves
 from tools.programs import REPOSITORY
 
 RUN = """
@@ -113,6 +114,18 @@ class AtATime(Gate):
 
     def test_as_many_as_are_asked_for(self):
         self.assertEqual(self.outcome(self.RT_CI, RT_JOBS="1")[0][1], "1")
+
+
+class TemporaryFiles(Gate):
+    RT_CI = f'echo $TMPDIR; [ -d "$TMPDIR" ] && echo there; echo {PASSED}'
+
+    def test_in_a_folder_that_goes_afterwards(self):
+        _, folder, there, *_ = self.outcome(self.RT_CI)[0]
+        self.assertEqual((there, pathlib.Path(folder).exists()), ("there", False))
+        self.assertEqual(pathlib.Path(folder).parent == MEMORY, memory_serves())
+
+    def test_where_they_are_asked_for(self):
+        self.assertEqual(self.outcome(self.RT_CI, TMPDIR=str(self.folder))[0][1], str(self.folder))
 
 
 class Interrupts(Gate):
