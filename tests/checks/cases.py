@@ -1,4 +1,5 @@
-"""The cases of document 01, A to M, and the edges around them, kept as cases/NAME.in and NAME.out.
+"""The cases of document 01, A to M, the edges around them, and the runs of the report's figures, kept as cases/NAME.in
+and NAME.out.
 
     python3 tests/checks/cases.py          runs target/bin/track on every input, handed over whole and in pieces
     python3 tests/checks/cases.py --make   writes every file again, the outputs by the independent program
@@ -18,7 +19,7 @@ if __name__ == "__main__":  # as a command, too, packages are found from the rep
 
 from tests.checks.differential import side_by_side
 from tests.generators.inputs import SIDES, filled, steps_for
-from tests.generators.runs import CASES, LONGEST_NEST, NO_EVENT, call, nest_of, parallel_on, table_of
+from tests.generators.runs import CASES, FIGURES, LONGEST_NEST, NO_EVENT, call, nest_of, parallel_on, table_of
 from tests.generators.tables import Padding, padded, step_line, text_of
 from tests.independent import rules
 from tests.independent.frames import TABLE_ROOM
@@ -49,6 +50,11 @@ def case_inputs():
         draft, _ = CASES[name]
         texts[name] = text_of_case(draft, [()] * (room + 1))
     return texts | {"a": TABLE_A + SCRIPT_A, "b": TABLE_A + SCRIPT_B, "m": TABLE_A}
+
+
+def figure_inputs():
+    """The report's own runs, by their figures: Examples 2, 3 with 6, 5 and 7."""
+    return {name: text_of_case(draft, addresses) for name, (draft, addresses) in FIGURES.items()}
 
 
 # lots for `nest_of`, whose shapes here leave nothing to them
@@ -88,10 +94,14 @@ def edge_inputs():
     }
 
 
+def all_inputs():
+    return case_inputs() | figure_inputs() | edge_inputs()
+
+
 def make():
     """Writes every input and its output."""
     KEPT.mkdir(exist_ok=True)
-    for name, text in (case_inputs() | edge_inputs()).items():
+    for name, text in all_inputs().items():
         given = text.encode("ascii")
         (KEPT / f"{name}.in").write_bytes(given)
         (KEPT / f"{name}.out").write_bytes(rules.listing(given))

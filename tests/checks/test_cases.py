@@ -1,4 +1,5 @@
-"""Tests of the kept cases: their outputs are the independent program's, and say what document 01 says of each.
+"""Tests of the kept cases: their outputs are the independent program's, and say what document 01 says of each, or
+the report of its own runs.
 
 A text is written as document 01 writes its case A: `/` for LF.
 """
@@ -9,7 +10,7 @@ import unittest
 from tests.checks import cases
 from tests.checks.test_rules import CASE_A_TRACK, text
 from tests.independent.frames import SCRIPT_ROOM, TABLE_ROOM, cut_input
-from tests.independent.rules import SAVE_ROOM, listing
+from tests.independent.rules import SAVE_ROOM, listing, play_listing
 from tools.programs import REPOSITORY
 
 
@@ -37,14 +38,18 @@ def counts(name):
     return tuple(int(opening[at : at + 4], 16) for at in (4, 8, 12))
 
 
+def by_references(name):
+    """The lines of what the program play has to print for a kept input: nodes, arcs and meetings by references."""
+    return play_listing(cases.kept(name)[0]).decode("ascii").splitlines()
+
+
 class Kept(unittest.TestCase):
     def test_every_case_is_kept(self):
-        names = cases.case_inputs() | cases.edge_inputs()
         files = {path.name for path in cases.KEPT.iterdir()}
-        self.assertEqual(files, {name + end for name in names for end in (".in", ".out")})
+        self.assertEqual(files, {name + end for name in cases.all_inputs() for end in (".in", ".out")})
 
     def test_inputs(self):
-        for name, given in (cases.case_inputs() | cases.edge_inputs()).items():
+        for name, given in cases.all_inputs().items():
             self.assertEqual(cases.kept(name)[0], given.encode("ascii"), name)
 
     def test_outputs(self):
@@ -78,6 +83,8 @@ class Cases(unittest.TestCase):
         self.assertIn("31000200020101", track("c-12"))
         self.assertEqual(events_and_status("c-12"), "4000/400200/400201/4100")
         self.assertEqual(events_and_status("c-21"), "4000/400201/400200/4100")
+        self.assertIn("51000200020101", by_references("c-12"))  # reference 2 is e0's
+        self.assertIn("51000200020201", by_references("c-21"))  # and e1's
 
     def test_d(self):
         self.assertEqual((events_and_status("d"), counts("d")), ("4000/4000/4000/4001/4101", (4, 3, 0)))
@@ -113,6 +120,38 @@ class Cases(unittest.TestCase):
 
     def test_m(self):
         self.assertEqual(told("m"), ["4100", "3001000000000000", "3f"])
+
+
+class Figures(unittest.TestCase):
+    """What the report says of its own runs, in its reference numbers; of the pictures we have its sentences alone."""
+
+    def hold(self, name, told_of_it, counted, resting, *lines):
+        """A run's events and status, its counts, its reference with the next fresh one, and lines by references."""
+        self.assertEqual((events_and_status(name), counts(name), refusals(name)), (told_of_it, counted, []))
+        self.assertTrue(any(line.startswith("43" + resting) for line in by_references(name)))
+        self.assertLess(set(lines), set(by_references(name)))
+
+    def test_fig_4(self):
+        """Example 2: the call of P, b and ✓ of the right side end in (a→STOP) ∥ Ω."""
+        nodes = "510002000102", "51000300020201", "510004010101", "5100050100", "510006010102"
+        self.hold("fig-4", "4000/4000/400201/4000/4102", (7, 6, 0), "00010008", *nodes, "5200060007")
+
+    def test_fig_5(self):
+        """Examples 3 and 6, computed in Fig. 8: nine nodes, and 9 and 10 "prepared .. but never used"."""
+        arcs = "5200020003", "5200050006", "5200070008", "5200040009", "520008000a"
+        self.hold("fig-5", "4000/400200/4000/4000/4102", (9, 8, 1), "0001000b", *arcs, "5300020006")
+        # the walk numbers the nodes as the report does
+        self.assertEqual(track("fig-5")[1:10], [line.replace("51", "31", 1) for line in by_references("fig-5")[2:11]])
+
+    def test_fig_6(self):
+        """Example 5: two rounds, each with its meeting, and both sides at the call of P again."""
+        events = "4000" + "/4000/4000/400200" * 2 + "/4100"
+        self.hold("fig-6", events, (14, 13, 2), "00010010", "5300030005", "53000a000b", "52000c000d", "52000e000f")
+
+    def test_fig_9(self):
+        """Example 7, computed in Fig. 10: a deadlock, the last references 14 and 15."""
+        events = "4000" + "/4000/400200" * 2 + "/4000/4000/4102"
+        self.hold("fig-9", events, (14, 13, 2), "00010010", "52000b000e", "52000d000f", "5300040003", "5300060009")
 
 
 PROVED = REPOSITORY / "crates" / "listing" / "proofs" / "Cases.antt"

@@ -433,7 +433,7 @@ def as_judged(rng):
     return rng.choice(tables.FAMILIES.round)(rng)
 
 
-# ---- families: document 01's cases
+# ---- families: document 01's cases, and the report's examples
 
 
 def case(*bodies, by=("",), events=2):
@@ -467,10 +467,24 @@ CASES = {
     "l-65": case(prefixes((0,) * 65, SKIPS)),  # refused
 }
 
+# the report's examples: a is event 00 and b event 01, MAIN definition 00 and P definition 01
+A_P = prefixes((0,), call(1))
+EXAMPLE_2 = parallel(E0, E0_STOP, choice(call(1), E0_STOP)), E1_SKIP  # Examples 3 and 6, too
+EXAMPLE_5 = parallel(E0, call(1), call(1)), A_P
+EXAMPLE_7 = parallel(E0, prefixes((0, 0), STOPS), call(1)), A_P
+
+# their runs, by the figure of the track, or of the computation where it has no track
+FIGURES = {
+    "fig-4": case(*EXAMPLE_2, by=("21", "21", "2")),
+    "fig-5": case(*EXAMPLE_2, by=("32", "1", "2")),  # computed in Fig. 8
+    "fig-6": case(*EXAMPLE_5, by=("1", "2", "3") * 2, events=1),  # two rounds of an endless run
+    "fig-9": case(*EXAMPLE_7, by=("2", "3", "2", "3", "1", "2"), events=1),  # computed in Fig. 10
+}
+
 
 def of_a_case(rng):
-    """A case of document 01 as it stands, cut to its first steps (M has none), or with a step more."""
-    draft, addresses = rng.choice(list(CASES.values()))
+    """A case or a figure's run as it stands, cut to its first steps (M has none), or with a step more."""
+    draft, addresses = rng.choice(list((CASES | FIGURES).values()))
     lines = [step_line(address) for address in addresses]
     lines = rng.choice((lines, lines, lines[: rng.randint(0, len(lines))], lines + [step_line([])]))
     return text_of(draft.lines + lines)

@@ -63,11 +63,11 @@ module _ {text ks ps os xs rs p x : List ℕ} {t : Sofar} (table : Table-of text
   abbrev ts : List Term
   ts = definitions-of t
 
-  for-runs : Table (layout t) p x ts
+  pub for-runs : Table (layout t) p x ts
   for-runs = rw (planned .plan-is, planned .sets-are) (checked-table text t (table .checked))
 
   -- what a step by an address promises
-  step-by : (v v′ : Words) (s : State) (r : Answer) (ds : List ℕ) (count : ℕ) (a : Address) (o : Run.Answer)
+  pub step-by : (v v′ : Words) (s : State) (r : Answer) (ds : List ℕ) (count : ℕ) (a : Address) (o : Run.Answer)
       → HoldsRun p x t v s → Steps p x ds count v r v′ → addressed ds count ≡ some a → answer ts s a ≡ o
       → (r ≡ told o) × HoldsRun p x t v′ (behind s o)
   unfolding answered

@@ -11,6 +11,7 @@ use native.Mathlib.Numerals.{add-one}
 use lib.Dec.{leb, ltb, eqb}
 use borrow.Author.Tests.{eq-eqb, ne-eqb, lt-ltb, le-ltb, le-leb, lt-leb, not-true, not-false}
 use Rattle.lines.specs.Line.{choose}
+use Rattle.lines.proofs.Choosing.{choose-most}
 use Rattle.kinds.specs.Kind.{external, parallel}
 use Rattle.frames.specs.TableFrame.{term-room}
 use Rattle.columns.specs.words.Columns.{look}
@@ -62,10 +63,6 @@ module _ (ks xs : List ℕ) (m n : ℕ) (b : Bool) (told : b ≡ splits ks m) wh
       → s ≡ slot ks xs m n
   unfolding slot
   slot-side h l t u s e f k = k ∙ rw (← told, e, f) (simp (not-false b h, le-ltb n 2 l))
-
-choose-most : (m : ℕ) (b : Bool) (x y : ℕ) → x ≤ m → y ≤ m → choose b x y ≤ m
-choose-most m true x y h k = h
-choose-most m false x y h k = k
 
 -- there are two sides
 pub slot-most : (ks xs : List ℕ) (m n s : ℕ) → s ≡ slot ks xs m n → s ≤ 2

@@ -30,7 +30,8 @@ use Rattle.graphs.specs.Saved.{placed, numbered, row, rows, rows-up, canonical,
 use Rattle.graphs.specs.Saved.{pair-frame, frames}
 use Rattle.inputs.specs.Cut.{starts-1f, extent, table-length, table-text, script-text}
 use Rattle.telling.specs.ListingFrame.{step-frame, status-frame, refusal-frame}
-use Rattle.listing.specs.Listing.{line-answer, goes-on, played, end-frames, within-room, run-listing}
+use Rattle.playing.specs.LineAnswer.{line-answer}
+use Rattle.listing.specs.Listing.{goes-on, played, end-frames, within-room, run-listing}
 use Rattle.listing.specs.Listing.{table-listing, listing}
 
 -- an input, and the output that it has to give

@@ -35,7 +35,8 @@ use Rattle.graphs.proofs.Spelled.{line-length}
 use Rattle.spelling.proofs.Spelt.{text-append}
 use Rattle.inputs.specs.Cut.{table-text, script-text}
 use Rattle.telling.specs.ListingFrame.{step-frame, status-frame, refusal-frame, alone}
-use Rattle.listing.specs.Listing.{line-answer, goes-on, played, Played, End, played-out, refused-at}
+use Rattle.playing.specs.LineAnswer.{line-answer}
+use Rattle.listing.specs.Listing.{goes-on, played, Played, End, played-out, refused-at}
 use Rattle.listing.specs.Listing.{script-room, save-room, end-frames, within-room, run-listing}
 use Rattle.listing.specs.Listing.{table-listing, listing}
 

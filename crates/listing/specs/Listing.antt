@@ -5,15 +5,14 @@ use lib.ListN.{length}
 use lib.Dec.{leb}
 use Rattle.lines.specs.Line.{choose, Raw, frame, lines, text}
 use Rattle.lines.specs.Judging.{Judged, accepted, refused}
-use Rattle.scripts.specs.Script.{Asked, address, asked}
-use Rattle.scripts.specs.Script as Script
+use Rattle.scripts.specs.Script.{asked}
 use Rattle.tables.specs.Table.{Sofar, judged}
 use Rattle.terms.specs.Term.{Term, definitions-of}
 use Rattle.rules.specs.declared.Event.{Event}
 use Rattle.rules.specs.Run.{State, start, Answer}
 use Rattle.rules.specs.Run as Run
 use Rattle.rules.specs.Offers.{status}
-use Rattle.rules.specs.Addressed.{address-of, answered}
+use Rattle.playing.specs.LineAnswer.{line-answer}
 use Rattle.graphs.specs.Graph.{graph-of}
 use Rattle.graphs.specs.Saved.{saved}
 use Rattle.inputs.specs.Cut.{table-text, script-text}
@@ -29,11 +28,6 @@ pub record Played : Type 0 where
   pub events : List Event
   pub end : End
   pub state : State
-
--- what a line of a script comes to: its own refusal, or its address's answer
-unfoldable pub line-answer : List Term → State → Asked → Answer
-line-answer ts s (address ds) = answered ts s (address-of ds)
-line-answer ts s (Script.refused r) = Run.refused r
 
 -- at line n: an accepted step goes on from the state behind it, and a refusal ends the work
 unfoldable pub goes-on : State → ℕ → (State → Played) → Answer → Played

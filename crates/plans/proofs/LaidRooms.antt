@@ -11,6 +11,7 @@ use native.Mathlib.Omega.{arith}
 use lib.ListN.{length, getD, getElem?, set, replicate, length-append}
 use lib.Dec.{ltb, eqb}
 use Rattle.lines.specs.Line.{choose}
+use Rattle.lines.proofs.Choosing.{choose-most}
 use Rattle.lines.specs.Judging.{accepted}
 use Rattle.kinds.specs.Kind as Kind
 use Rattle.kinds.specs.Kind.{subterms}
@@ -128,10 +129,6 @@ own-numbered k v s i w h t =
       put-other 1 i v (put 0 i k w) (4 * t + 3) (λ e. omega arith),
       put-other 0 i k w (4 * t + 3) (λ e. omega arith),
     ) (h t)
-
-choose-most : (m : ℕ) (b : Bool) (x y : ℕ) → x ≤ m → y ≤ m → choose b x y ≤ m
-choose-most m true x y first second = first
-choose-most m false x y first second = second
 
 through-most : (k o : ℕ) → o ≤ term-room → through k o ≤ term-room
 unfolding through

@@ -1,5 +1,5 @@
 -- What a script's line comes to, with the words after it, by what its tests found: each law takes what the calls on
--- the way promise. Assumes nothing.
+-- the way promise. What that says of a run is `plays`. Assumes nothing.
 use Prim.Native.Nat.{ℕ}
 use mathlib.Core.Path.{_≡_, refl}
 use mathlib.Core.List.{List}
@@ -13,14 +13,17 @@ use Rattle.scripts.specs.declared.ScriptStep.{ScriptStep}
 use Rattle.scripts.specs.declared.ScriptStep.the-variants as Lines
 use Rattle.scripts.proofs.ScriptStep.{enum}
 use Rattle.runs.specs.code.Doors.{stepped}
+use Rattle.runs.specs.words.Held.{lent}
+use Rattle.playing.specs.words.Account.{Plays}
 use Rattle.playing.specs.code.Playing.{Line-played, with-played, of-answer, without-step, unplayed, step-played}
 use Rattle.playing.specs.code.Playing.{by-line, played}
 use Rattle.runs.specs.declared.Answer.{Answer}
 use Rattle.runs.specs.declared.Answer.the-variants.{Accepted, Refused}
 use Rattle.runs.specs.declared.Shown.{Shown}
 use Rattle.playing.specs.declared.Played.{Played}
-use Rattle.playing.specs.declared.Played.the-variants as Plays
+use Rattle.playing.specs.declared.Played.the-variants as Comes
 use Rattle.runs.proofs.Laws.{Steps}
+use Rattle.playing.proofs.Account.{plays}
 
 -- a line of a script that asks for no step, by its tag
 abbrev pub Other : ScriptStep → Type 0
@@ -32,9 +35,14 @@ module _ (p x w g c : List ℕ) (at : ℕ) (ls : List Raw) (ds es : List ℕ) (l
   abbrev Whole : Line-played
   Whole = played p x w g c at ls ds
 
-  -- the line comes to r, with words v, h and k after it
+  -- what `play` promises: the line comes to r, with words v, h and k after it
   abbrev pub Told : Played → List ℕ → List ℕ → List ℕ → Type 0
-  Told r v h k = (with-played r v h k ≡ Whole) × (es ≡ sets ds 0 (Script.left ls))
+  Told r v h k =
+      (with-played r v h k ≡ Whole)
+      × ((es ≡ sets ds 0 (Script.left ls)) × Plays p x ds at ls (lent w g c) r (lent v h k))
+
+  tells : (r : Played) (v h k : List ℕ) → with-played r v h k ≡ Whole → Told r v h k
+  tells r v h k e = (e, (reads .1, plays p x w g c at ds ls r v h k e))
 
   line-by : (s : ScriptStep) → line ≡ s → Whole ≡ by-line p x w g c s es
   unfolding played
@@ -47,19 +55,18 @@ module _ (p x w g c : List ℕ) (at : ℕ) (ls : List Raw) (ds es : List ℕ) (l
   without Lines.End h = refl
 
   pub no-step-played : Other line → (r : Played) → r ≡ without-step line → Told r w g c
-  no-step-played h r r-is =
-      (rw (r-is, line-by line refl, without line h), reads .1)
+  no-step-played h r r-is = tells r w g c (rw (r-is, line-by line refl, without line h))
 
   module _ (n next : ℕ) (asks : line ≡ Lines.Address n next) (a : Answer) (v h k : List ℕ)
       (so : Steps a v h k (stepped p x n es w g c)) where
-    answered : Told (of-answer next a) v h k
+    answered : with-played (of-answer next a) v h k ≡ Whole
     unfolding by-line step-played
-    answered = (rw (line-by _ asks, ← so), reads .1)
+    answered = rw (line-by _ asks, ← so)
 
-    pub refused-played : (m : ℕ) → a ≡ Refused m → Told (Plays.Refused m) v h k
+    pub refused-played : (m : ℕ) → a ≡ Refused m → Told (Comes.Refused m) v h k
     unfolding of-answer
-    refused-played m is = rw is at answered
+    refused-played m is = tells (Comes.Refused m) v h k (rw is at answered)
 
-    pub shown-played : (s : Shown) → a ≡ Accepted s → Told (Plays.Stepped (s .event) next) v h k
+    pub shown-played : (s : Shown) → a ≡ Accepted s → Told (Comes.Stepped (s .event) next) v h k
     unfolding of-answer
-    shown-played s is = rw is at answered
+    shown-played s is = tells (Comes.Stepped (s .event) next) v h k (rw is at answered)

@@ -1,2 +1,5 @@
--- A script's line played. Below: `code`, mirrors of code.
+-- A script's line played. Meaning: `LineAnswer`, what a line comes to in a state. Below: `words`, layouts of words and
+-- invariants; `code`, mirrors of code.
+pub mod LineAnswer
+pub mod words
 pub mod code

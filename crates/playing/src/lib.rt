@@ -15,7 +15,9 @@ ghost use lib.ListN.{drop};
 ghost use lib.Seq as seq;
 ghost use Rattle.scripts.specs.Script.{left};
 ghost use Rattle.lines.specs.Line.{lines};
+ghost use Rattle.runs.specs.words.Held.{lent};
 ghost use Rattle.playing.specs.code.Playing as spec;
+ghost use Rattle.playing.specs.words.Account.{Plays};
 
 // What a line of a script comes to: a step, with the next line from `next` on; the number of the refusal; or nothing,
 // at the end of the script.
@@ -25,7 +27,8 @@ pub enum Played {
     End,
 }
 
-// Plays the line of a script that begins at `at`: its digits go to the front of `digits`, and the run takes its step.
+// Plays the line of a script that begins at `at`: its digits go to the front of `digits`, and the run takes its step. Where
+// the words hold a run of a table's plan, the answer is document 01's, and they hold the run behind it.
 pub fn play(
     text: &[u8],
     at: usize,
@@ -41,6 +44,10 @@ pub fn play(
         (now (counters .entry)) at (lines (drop at (now (text .entry)))) (now (digits .entry)) ⌝ }
     ensures { λ _. ⌜ now (digits .exit)
         ≡ seq.sets (now (digits .entry)) 0 (left (lines (drop at (now (text .entry))))) ⌝ }
+    ensures { λ r. ⌜ Plays (now (plan .entry)) (now (sets .entry)) (now (digits .entry)) at
+        (lines (drop at (now (text .entry))))
+        (lent (now (nodes .entry)) (now (track .entry)) (now (counters .entry))) r
+        (lent (now (nodes .exit)) (now (track .exit)) (now (counters .exit))) ⌝ }
 {
     let line = next_step(text, at, digits);
     let ScriptStep::Address { count, next } = line else {

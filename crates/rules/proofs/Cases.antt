@@ -1,17 +1,20 @@
--- Document 01's runs A to H and K, played by computation: events, status, and how many nodes, saved arcs,
--- arcs made and meetings the track has, or the refusal. One statement for all. Assumes nothing.
+-- Document 01's runs A to H and K, played by computation: events, status, how many nodes, saved arcs, arcs made
+-- and meetings the track has, the place of reference 2, which C speaks of, and the refusal. One statement for
+-- all. Assumes nothing.
 use Prim.Native.Nat.{ℕ, suc}
 use mathlib.Core.Path.{_≡_, refl}
 use mathlib.Core.Bool.{Bool, false, _&&_, _||_}
 use mathlib.Core.List.{List, [], _∷_, _++_}
+use mathlib.Core.Option.{Option, none, some}
 use lib.ListN.{length}
 use lib.Dec.{eqb}
 use Rattle.lines.specs.Line.{choose}
 use Rattle.terms.specs.Term.{call, SKIP, STOP, external, sequence, parallel, Term, leaf, prefix, binary}
+use Rattle.places.specs.Place.{Place}
 use Rattle.rules.specs.declared.Event.{Event}
 use Rattle.rules.specs.declared.Event.the-variants.{Tau as τ, Tick as ✓, Visible as visible}
 use Rattle.rules.specs.Process.{one, two, three, four, Address, joined, untouched, right-side, cells}
-use Rattle.rules.specs.Track.{Label, Pair, labelled, prefixed, first-eval, around, each-with, meet}
+use Rattle.rules.specs.Track.{Label, lookup, Pair, labelled, prefixed, first-eval, around, each-with, meet}
 use Rattle.rules.specs.Track.{jointly, carried, started, leads, parents, ended}
 use Rattle.sets.specs.EventSet.{member}
 use Rattle.rules.specs.Step.{one-side, by-side, same, both-sides, with-right, in-sequence, by-left}
@@ -33,6 +36,26 @@ saved ls [] = 0
 saved ls (a ∷ more) =
     choose (labels-it ls (a .from) && labels-it ls (a .to)) (suc (saved ls more)) (saved ls more)
 
+-- a run as far as it is accepted: its events, the refusal that ends it, 0 where none does, and the state behind
+-- the accepted steps
+pub record Ran : Type 0 where
+  pub events : List Event
+  pub refusal : ℕ
+  pub state : State
+
+-- a run by some addresses, up to the first that is refused
+unfoldable pub play : List Term → List Event → State → List Address → Ran
+play ts es s [] = record { events = es; refusal = 0; state = s }
+play ts es s (a ∷ more) = go (answer ts s a) (λ e t. play ts (es ++ (e ∷ [])) t more)
+  where
+    go : Answer → (Event → State → Ran) → Ran
+    go (refused r) on = record { events = es; refusal = r; state = s }
+    go (accepted e t) on = on e t
+
+-- a run from the start, whose first step is the call
+unfoldable pub ran : List Term → List Address → Ran
+ran ts addresses = play ts [] start ([] ∷ addresses)
+
 -- what is told of a run that has been played
 pub record Told : Type 0 where
   pub events : List Event
@@ -41,31 +64,24 @@ pub record Told : Type 0 where
   pub arcs : ℕ
   pub made : ℕ
   pub meetings : ℕ
+  pub second : Option Place
   pub refusal : ℕ
 
-tell : ℕ → List Event → ℕ → State → Told
-tell n es r s = record {
-  events = es;
-  status = status n (s .process);
-  nodes = length (s .labels);
-  arcs = saved (s .labels) (s .arcs);
-  made = length (s .arcs);
-  meetings = length (s .meetings);
-  refusal = r;
+tell : ℕ → Ran → Told
+tell n r = record {
+  events = r .events;
+  status = status n (r .state .process);
+  nodes = length (r .state .labels);
+  arcs = saved (r .state .labels) (r .state .arcs);
+  made = length (r .state .arcs);
+  meetings = length (r .state .meetings);
+  second = lookup 2 (r .state .labels);
+  refusal = r .refusal;
 }
 
--- a run of a table of n events by some addresses, up to the first that is refused
-pub play : ℕ → List Term → List Event → State → List Address → Told
-play n ts es s [] = tell n es 0 s
-play n ts es s (a ∷ more) = go (answer ts s a) (λ e t. play n ts (es ++ (e ∷ [])) t more)
-  where
-    go : Answer → (Event → State → Told) → Told
-    go (refused r) on = tell n es r s
-    go (accepted e t) on = on e t
-
--- a run from the start, whose first step is the call
+-- what is told of a run of a table of n events
 run : ℕ → List Term → List Address → Told
-run n ts addresses = play n ts [] start ([] ∷ addresses)
+run n ts addresses = tell n (ran ts addresses)
 
 -- event k and then STOP
 stopping : ℕ → Term
@@ -92,30 +108,35 @@ runs =
     ∷ run 2 (binary (parallel 1) (stopping 0) (stopping 1) ∷ []) ((two ∷ []) ∷ [])
     ∷ []
 
-told : List Event → Status → ℕ → ℕ → ℕ → ℕ → ℕ → Told
-told es st n a m k r =
-    record { events = es; status = st; nodes = n; arcs = a; made = m; meetings = k; refusal = r }
+told : List Event → Status → ℕ → ℕ → ℕ → ℕ → Option Place → ℕ → Told
+told es st n a m k p r =
+    record { events = es; status = st; nodes = n; arcs = a; made = m; meetings = k; second = p; refusal = r }
+
+-- a place in the right-hand side of definition 00
+placed : List ℕ → Option Place
+placed p = some (record { definition = 0; path = p })
 
 pub outcomes : List Told
 outcomes =
-    told (τ ∷ visible 0 ∷ τ ∷ τ ∷ []) stuck 8 7 9 1 0
-    ∷ told (τ ∷ visible 0 ∷ τ ∷ τ ∷ []) stuck 8 7 9 1 0
-    ∷ told (τ ∷ visible 0 ∷ visible 1 ∷ []) live 6 5 7 0 0
-    ∷ told (τ ∷ visible 1 ∷ visible 0 ∷ []) live 6 5 7 0 0
-    ∷ told (τ ∷ τ ∷ τ ∷ ✓ ∷ []) Ended 4 3 7 0 0
-    ∷ told (τ ∷ τ ∷ τ ∷ τ ∷ []) live 5 5 8 0 0
-    ∷ told (τ ∷ ✓ ∷ []) Ended 3 2 3 0 0
-    ∷ told (τ ∷ τ ∷ visible 0 ∷ []) live 5 4 6 0 0
-    ∷ told (τ ∷ visible 0 ∷ []) live 9 8 11 3 0
-    ∷ told (τ ∷ []) live 1 0 1 0 7
-    ∷ told (τ ∷ []) live 1 0 1 0 7
-    ∷ told (τ ∷ visible 1 ∷ []) live 4 3 4 0 0
+    told (τ ∷ visible 0 ∷ τ ∷ τ ∷ []) stuck 8 7 9 1 (placed (1 ∷ 1 ∷ [])) 0
+    ∷ told (τ ∷ visible 0 ∷ τ ∷ τ ∷ []) stuck 8 7 9 1 (placed (1 ∷ 1 ∷ [])) 0
+    -- C: "reference 2 is e0's in the first order and e1's in the second": e0 is at 1.1, and e1 at 2.1
+    ∷ told (τ ∷ visible 0 ∷ visible 1 ∷ []) live 6 5 7 0 (placed (1 ∷ 1 ∷ [])) 0
+    ∷ told (τ ∷ visible 1 ∷ visible 0 ∷ []) live 6 5 7 0 (placed (2 ∷ 1 ∷ [])) 0
+    ∷ told (τ ∷ τ ∷ τ ∷ ✓ ∷ []) Ended 4 3 7 0 (placed (1 ∷ [])) 0
+    ∷ told (τ ∷ τ ∷ τ ∷ τ ∷ []) live 5 5 8 0 (placed (1 ∷ 1 ∷ [])) 0
+    ∷ told (τ ∷ ✓ ∷ []) Ended 3 2 3 0 (placed (1 ∷ [])) 0
+    ∷ told (τ ∷ τ ∷ visible 0 ∷ []) live 5 4 6 0 (placed (1 ∷ [])) 0
+    ∷ told (τ ∷ visible 0 ∷ []) live 9 8 11 3 (placed (1 ∷ [])) 0
+    ∷ told (τ ∷ []) live 1 0 1 0 none 7
+    ∷ told (τ ∷ []) live 1 0 1 0 none 7
+    ∷ told (τ ∷ visible 1 ∷ []) live 4 3 4 0 (placed (2 ∷ 1 ∷ [])) 0
     ∷ []
 
 pub cases-played : runs ≡ outcomes
 unfolding
-    labels-it saved tell play run stopping runs told outcomes joined untouched right-side cells labelled
-    prefixed first-eval around each-with meet jointly carried started leads parents ended member
+    labels-it saved play ran tell run stopping runs told placed outcomes joined untouched right-side cells
+    lookup labelled prefixed first-eval around each-with meet jointly carried started leads parents ended member
     one-side by-side same both-sides with-right in-sequence by-left at-Ω then step after over-room
     within-room whole answered answer leaf-offers offers-✓ offers-τ offers-event offers-some status
 cases-played = refl

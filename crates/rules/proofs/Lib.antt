@@ -8,7 +8,8 @@
 -- `Placed`, literals at their places, and Ω at the top or beside a parallel; `Weighed`, what control weighs, and
 -- `Parents`, arcs from labelled references, none made twice, and the parents of Ω; `Sided`, where the sides of a
 -- choice or parallel begin, `Gauged`, what a gauge reads, and `Branches`, arcs between labelled nodes; `Outward`,
--- arcs to fresh references alone; and `Cases`, the runs of document 01 played by computation.
+-- arcs to fresh references alone; and the runs of document 01, `Cases`, and of the report, `Examples`, played by
+-- computation.
 pub mod Derived
 pub mod Answered
 pub mod Quiet
@@ -30,3 +31,4 @@ pub mod Gauged
 pub mod Branches
 pub mod Outward
 pub mod Cases
+pub mod Examples

@@ -6,6 +6,7 @@ use Prim.Native.Nat.{ℕ, zero, suc, _<_}
 use mathlib.Core.Path.{_≡_, refl, subst}
 use mathlib.Core.List.{List, [], _∷_}
 use mathlib.Core.Option.{Option, none, some}
+use mathlib.Core.Logic.{_↔_}
 use native.Mathlib.Omega.{arith}
 use lib.ListN.{length, getElem?}
 use Rattle.terms.specs.Term.{call, SKIP, STOP, Operator, external, parallel, Term, LeafWithin, Within}
@@ -20,9 +21,11 @@ use Rattle.rules.specs.Tracking.{external-choice-3, external-choice-4, s
 use Rattle.rules.specs.Tracking.{sequential-composition-2, synchronized-parallelism-1}
 use Rattle.rules.specs.Tracking.{synchronized-parallelism-2, synchronized-parallelism-3}
 use Rattle.rules.specs.Tracking.{synchronized-parallelism-4}
-use Rattle.rules.specs.Run.{State, after, Reached, begun, goes-on}
+use Rattle.rules.specs.Run.{State, after, refused, answer, Reached, begun, goes-on}
+use Rattle.rules.specs.declared.Status.the-variants.{Stuck as stuck}
+use Rattle.rules.specs.Offers.{status}
 use Rattle.rules.proofs.Answered.{accepted-exactly}
-use Rattle.rules.proofs.Stuck.{Among}
+use Rattle.rules.proofs.Stuck.{Among, stuck-answered}
 
 -- every call of a control is of one of d definitions, and every event is one of e
 abbrev pub Ranged : ℕ → ℕ → Process → Type 0
@@ -97,6 +100,13 @@ ranged-among d e (split w k m n P Q) h = (ranged-among d e P (h .0), ranged-amon
 ranged-among d e (sequence w b P Q) h = (ranged-among d e P (h .0), ranged-among d e Q (h .1))
 ranged-among d e Ω h = tt
 ranged-among d e ⊥′ h = tt
+
+-- so a run is stuck exactly when it is not at Ω and every address is answered 7
+pub reached-stuck : (d e : ℕ) (ts : List Term) → ((n : ℕ) (t : Term) → getElem? ts n ≡ some t → Within d e t) → 0 < d
+    → (s : State) → Reached ts s
+    → (status e (s .process) ≡ stuck) ↔ ((s .process ≡ Ω → ⊥) × ((a : Address) → answer ts s a ≡ refused 7))
+reached-stuck d e ts within z s h =
+    stuck-answered ts e s (ranged-among d e (s .process) (reached-ranged d e ts within z h))
 
 -- every definition that a control calls is in the table
 abbrev pub Calls : List Term → Process → Type 0

@@ -26,6 +26,7 @@ use Rattle.rules.specs.Tracking.{synchronized-parallelism-1, synchronize
 use Rattle.rules.specs.Tracking.{synchronized-parallelism-3, synchronized-parallelism-4}
 use Rattle.rules.specs.Plain.{Plain, binary, plain, plain-side, plain-rhs, operator, strip, Steps}
 use Rattle.rules.specs.Plain as Fig3
+use Rattle.rules.specs.Stopping.{LeadsToSTOP, there, by-first, by-second, inside}
 
 -- a term before any step strips to the term
 strip-joined : (o : Operator) (w : Place) (P Q : Process)
@@ -71,9 +72,9 @@ shows-τ hides-✓ t = refl
 shows-no-✓ : {x : ℕ} {u : Event} → Shows x u ✓ → ⊥
 shows-no-✓ = elim [ ]
 
--- a plain step from p by e to q, or a τ that changes nothing
-abbrev Seen : List Term → Plain → Event → Plain → Type 0
-Seen ts p e q = Steps ts p e q ⊎ ((e ≡ τ) × (q ≡ p))
+-- a plain step of P by e to q; or the STOP step that an address names, a τ that changes nothing
+abbrev Seen : List Term → Address → Process → Event → Plain → Type 0
+Seen ts a P e q = Steps ts (strip P) e q ⊎ ((e ≡ τ) × (q ≡ strip P) × LeadsToSTOP a P)
 
 -- address a leads P, which stands at s, by e to what strips to q; and wherever it stands
 abbrev Reached : List Term → Address → Process → At → Event → Plain → Type 0
@@ -123,46 +124,50 @@ module _ {ts : List Term} where
   ends-at-Ω (synchronized-parallelism-4 t t′) e = refl
 
   -- a visible step is no STOP step
-  seen-visible : {p q : Plain} {u e : Event} → Seen ts p u q → u ≡ e → Visible e → Steps ts p e q
+  seen-visible : {a : Address} {P : Process} {q : Plain} {u e : Event} → Seen ts a P u q → u ≡ e → Visible e
+      → Steps ts (strip P) e q
   seen-visible (inl h) t v = rw t at h
   seen-visible (inr h) t v = absurd (rw (sym t ∙ h .0) at v)
 
   -- a rule around a step, by which τ passes as τ, is one around the STOP step
-  seen-inside : {p p′ : Plain} {u e : Event} (f : Plain → Plain) → (u ≡ τ → e ≡ τ)
-      → (Steps ts p u p′ → Steps ts (f p) e (f p′)) → Seen ts p u p′ → Seen ts (f p) e (f p′)
-  seen-inside f still rule (inl h) = inl (rule h)
-  seen-inside f still rule (inr h) = inr (still (h .0), ap f (h .1))
+  seen-inside : {a b : Address} {P S : Process} {q : Plain} {u e : Event} (f : Plain → Plain) → strip S ≡ f (strip P)
+      → (LeadsToSTOP a P → LeadsToSTOP b S) → (u ≡ τ → e ≡ τ)
+      → (Steps ts (strip P) u q → Steps ts (f (strip P)) e (f q)) → Seen ts a P u q → Seen ts b S e (f q)
+  seen-inside f is leads still rule (inl h) = inl (rw is (rule h))
+  seen-inside f is leads still rule (inr h) = inr (still (h .0), ap f (h .1) ∙ sym is, leads (h .2))
 
-  -- with tracking stripped, a step is a plain step of the same event, or the STOP step, which changes nothing
+  -- with tracking stripped, a step is a plain step of the same event, or the STOP step, which changes nothing, and then its
+  -- address leads to a STOP
   pub tracked-plainly : {a : Address} {P : Process} {s : At} {r : Outcome} → Tracks ts a P s r
-      → Steps ts (strip P) (r .event) (strip (r .process)) ⊎ ((r .event ≡ τ) × (strip (r .process) ≡ strip P))
+      → Steps ts (strip P) (r .event) (strip (r .process))
+      ⊎ ((r .event ≡ τ) × (strip (r .process) ≡ strip P) × LeadsToSTOP a P)
   unfolding strip operator labelled prefixed around jointly carried started ended
   tracked-plainly (process-call {n}) = inl (rw (strip-rhs ts n) Fig3.process-call)
   tracked-plainly prefixing = inl Fig3.prefixing
   tracked-plainly skip = inl Fig3.skip
-  tracked-plainly stop = inr (refl, refl)
+  tracked-plainly stop = inr (refl, refl, there)
   tracked-plainly internal-choice-1 = inl Fig3.internal-choice-1
   tracked-plainly internal-choice-2 = inl Fig3.internal-choice-2
   tracked-plainly (external-choice-1 {Q} d t) =
-      seen-inside (λ p. binary external p (strip Q)) (λ i. refl)
+      seen-inside (λ p. binary external p (strip Q)) refl by-first (λ i. refl)
       (λ h. Fig3.external-choice-1 (rw t at h)) (tracked-plainly d)
   tracked-plainly (external-choice-2 {P} d t) =
-      seen-inside (λ q. binary external (strip P) q) (λ i. refl)
+      seen-inside (λ q. binary external (strip P) q) refl by-second (λ i. refl)
       (λ h. Fig3.external-choice-2 (rw t at h)) (tracked-plainly d)
   tracked-plainly (external-choice-3 d v) =
       inl (Fig3.external-choice-3 (seen-visible (tracked-plainly d) refl v) v)
   tracked-plainly (external-choice-4 d v) =
       inl (Fig3.external-choice-4 (seen-visible (tracked-plainly d) refl v) v)
   tracked-plainly (sequential-composition-1 {Q} d n) =
-      seen-inside (λ p. binary Term.sequence p (strip Q)) (λ i. i)
+      seen-inside (λ p. binary Term.sequence p (strip Q)) refl inside (λ i. i)
       (λ h. Fig3.sequential-composition-1 h n) (tracked-plainly d)
   tracked-plainly (sequential-composition-2 d t) =
       inl (Fig3.sequential-composition-2 (seen-visible (tracked-plainly d) t tt) (ap strip (ends-at-Ω d t)))
   tracked-plainly (synchronized-parallelism-1 {x} {Q} d v) =
-      seen-inside (λ p. binary (parallel x) p (strip Q)) (shows-τ v)
+      seen-inside (λ p. binary (parallel x) p (strip Q)) refl by-first (shows-τ v)
       (λ h. Fig3.synchronized-parallelism-1 h v) (tracked-plainly d)
   tracked-plainly (synchronized-parallelism-2 {x} {P} d v) =
-      seen-inside (λ q. binary (parallel x) (strip P) q) (shows-τ v)
+      seen-inside (λ q. binary (parallel x) (strip P) q) refl by-second (shows-τ v)
       (λ h. Fig3.synchronized-parallelism-2 h v) (tracked-plainly d)
   tracked-plainly (synchronized-parallelism-3 d d′ t t′ i c) =
       inl (Fig3.synchronized-parallelism-3 (seen-visible (tracked-plainly d) t tt)

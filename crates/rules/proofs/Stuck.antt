@@ -23,6 +23,8 @@ use Rattle.rules.specs.Step.{at-Ω}
 use Rattle.rules.specs.declared.Status.the-variants.{Live as live, Ended as ended, Stuck as stuck}
 use Rattle.rules.specs.Offers.{leaf-offers, offers-✓, offers-τ, offers-event, offers, offers-some}
 use Rattle.rules.specs.Offers.{status}
+use Rattle.rules.specs.Run.{State, stands, refused, answer}
+use Rattle.rules.proofs.Answered.{seven-exactly}
 use Rattle.rules.proofs.Offered.{or-left, or-right, or-either, is-Ω, derived-offered, offered-derived}
 
 -- every event of a control is below n
@@ -146,6 +148,15 @@ module _ (ts : List Term) (n : ℕ) (P : Process) where
       go false true e f h = let z : _≡_ {A = ℕ} 0 1 = cc in absurd (omega arith)
       go false false e f h = (refl, refl)
 
+  live-is : status n P ≡ live → (at-Ω P ≡ false) × (some-event n P ≡ true)
+  unfolding status
+  live-is h = go (at-Ω P) (some-event n P) h
+    where
+      go : (b c : Bool) → choose b ended (choose c live stuck) ≡ live → (b ≡ false) × (c ≡ true)
+      go true c h = let z : _≡_ {A = ℕ} 0 1 = cc in absurd (omega arith)
+      go false true h = (refl, refl)
+      go false false h = let z : _≡_ {A = ℕ} 0 1 = cc in absurd (omega arith)
+
   true-false : (b : Bool) → b ≡ true → b ≡ false → ⊥
   true-false b e f = let z : _≡_ {A = ℕ} 0 1 = cc in omega arith
 
@@ -158,4 +169,37 @@ module _ (ts : List Term) (n : ℕ) (P : Process) where
           λ a s r d. true-false (some-event n P) (offered-some t (r .event) (derived-offered ts d)) (b .1),
         ),
     λ h. rw (not-ended (h .0), never-offers (h .1)),
+  )
+
+  -- from every place some address has a derivation
+  abbrev pub Derivable : Type 0
+  Derivable = (s : At) → (a : Address) × (r : Outcome) × Tracks ts a P s r
+
+  pub live-exactly : Among n P → (status n P ≡ live) ↔ ((P ≡ Ω → ⊥) × Derivable)
+  unfolding status
+  live-exactly t = (
+    λ h. let b = live-is h in (λ e. true-false (at-Ω P) (rw e Ω-ended) (b .0), offer-derived (b .1)),
+    λ h.
+        let (a, r, d) = h .1 (record { reference = 0; fresh = 1; arcs = [] }) in
+        rw (not-ended (h .0), offered-some t (r .event) (derived-offered ts d)),
+  )
+
+-- the status of a state, by what its addresses are answered
+module _ (ts : List Term) (n : ℕ) (s : State) (t : Among n (s .process)) where
+  -- every address is answered 7 exactly where there is no derivation from any place
+  pub all-seven : Never ts n (s .process) ↔ ((a : Address) → answer ts s a ≡ refused 7)
+  all-seven = (
+    λ h a. seven-exactly ts s a .1 (λ r d. h a (stands s) r d),
+    λ h a at r d.
+        let offer = derived-offered ts d in
+        let (b, q, e, same) = offered-derived ts (s .process) (r .event) offer (stands s) in
+        seven-exactly ts s b .0 (h b) q e,
+  )
+
+  -- stuck exactly when not at Ω and every address is answered 7
+  pub stuck-answered : (status n (s .process) ≡ stuck)
+      ↔ ((s .process ≡ Ω → ⊥) × ((a : Address) → answer ts s a ≡ refused 7))
+  stuck-answered = (
+    λ h. let (away, never) = stuck-exactly ts n (s .process) t .0 h in (away, all-seven .0 never),
+    λ h. stuck-exactly ts n (s .process) t .1 (h .0, all-seven .1 (h .1)),
   )

@@ -15,6 +15,13 @@ digit-of d =
     choose (eqb d 1) (some one)
     (choose (eqb d 2) (some two) (choose (eqb d 3) (some three) (choose (eqb d 4) (some four) none)))
 
+-- and back
+unfoldable pub byte-of : Digit → ℕ
+byte-of one = 1
+byte-of two = 2
+byte-of three = 3
+byte-of four = 4
+
 unfoldable pub with-digit : Option Digit → Option Address → Option Address
 with-digit none a = none
 with-digit (some d) none = none
@@ -24,6 +31,11 @@ with-digit (some d) (some a) = some (d ∷ a)
 unfoldable pub address-of : List ℕ → Option Address
 address-of [] = some []
 address-of (d ∷ ds) = with-digit (digit-of d) (address-of ds)
+
+-- the digits of an address, a byte each
+unfoldable pub spelled : Address → List ℕ
+spelled [] = []
+spelled (d ∷ a) = byte-of d ∷ spelled a
 
 -- what an address comes to; where there is none, no derivation has it
 unfoldable pub answered : List Term → State → Option Address → Run.Answer

@@ -35,8 +35,9 @@ use Rattle.step_laws.proofs.Going.{Goes}
 use Rattle.step_laws.proofs.Sideless.{Sideless, labelled-sideless, standing-sideless}
 use Rattle.step_laws.proofs.Parts.{on-to, one-on, Clean, on-writes, untouched-around, rests-holds, new-rests}
 use Rattle.counting.specs.code.Counting.{tally-of}
+use Rattle.weighing.proofs.TermTold.{rhs-cells}
 use Rattle.runs.specs.words.Held.{Table, Holds}
-use Rattle.runs.proofs.Weights.{rhs-cells}
+use Rattle.runs.proofs.Weights.{}
 use Rattle.runs.proofs.Keeping.{run-words}
 use Rattle.rules.specs.Track.{lookup}
 

@@ -5,10 +5,10 @@
 use Prim.Native.Nat.{ℕ, _≤_, _<_}
 use mathlib.Core.Path.{_≡_, refl, sym, subst, _∙_}
 use mathlib.Core.Bool.{Bool, true, false}
-use mathlib.Core.List.{List, [], _∷_, _++_}
-use mathlib.Core.Option.{none, some}
+use mathlib.Core.List.{List, [], _++_}
+use mathlib.Core.Option.{some}
 use native.Mathlib.Omega.{arith}
-use lib.ListN.{length, length-append, getElem?}
+use lib.ListN.{length, length-append}
 use lib.Dec.{eqb}
 use borrow.Author.Tests.{eqb-true, eqb-false}
 use Rattle.lines.specs.Line.{choose}
@@ -22,7 +22,6 @@ use Rattle.rules.proofs.Marked.{reached-marked}
 use Rattle.rules.proofs.Holding.{reached-held}
 use Rattle.rules.proofs.Drawn.{rooms-hold, reached-kept, fresh-room}
 use Rattle.rules.proofs.Climbing.{reached-climbed}
-use Rattle.rules.proofs.Ranged.{reached-ranged, ranged-calls, Calls}
 use Rattle.plans.specs.words.Plan.{Layout}
 use Rattle.control.specs.words.Control.{state, resting}
 use Rattle.weighing.proofs.Told.{From, wrapped}
@@ -36,22 +35,11 @@ use Rattle.step_laws.proofs.Taking.{takes}
 use Rattle.counting.specs.code.Counting.{tally-of}
 use Rattle.runs.specs.code.Doors.{step-levels, performed}
 use Rattle.runs.specs.words.Held.{Table, Holds}
+use Rattle.runs.proofs.Defined.{reached-calls}
 use Rattle.runs.proofs.Weights.{there-held}
 use Rattle.runs.proofs.FewMet.{met-labelled}
 use Rattle.runs.proofs.Keeping.{run-words, first-free}
 use Rattle.runs.proofs.Calling.{call-of, call-goes, start-rests, start-sideless}
-
--- a table has a first definition
-some-definition : (ts : List Term) → (getElem? ts 0 ≡ none → ⊥) → 0 < length ts
-some-definition [] h = absurd (h refl)
-some-definition (t ∷ ts) h = omega arith
-
--- and every definition that a run calls
-reached-calls : (l : Layout) (p x : List ℕ) (ts : List Term) → Table l p x ts → (s : State) → Reached ts s
-    → Calls ts (s .process)
-reached-calls l p x ts table s reached =
-    ranged-calls (length ts) (table .events) ts (s .process) refl
-    (reached-ranged (length ts) (table .events) ts (table .within) (some-definition ts (table .some-first)) reached)
 
 module _ (l : Layout) (p x : List ℕ) (ts : List Term) (count : ℕ) (w g c : List ℕ) (s : State)
     (holds : Holds l p x ts w g c s) where

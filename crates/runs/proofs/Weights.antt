@@ -5,14 +5,14 @@ use Prim.Native.Nat.{ℕ, zero, suc, _≤_}
 use mathlib.Core.Path.{_≡_, refl, ap, subst}
 use mathlib.Core.Bool.{Bool, true, false}
 use mathlib.Core.List.{List, []}
-use mathlib.Core.Option.{Option, none, some}
+use mathlib.Core.Option.{some}
 use native.Mathlib.Omega.{arith}
 use lib.ListN.{length, getElem?}
 use lib.Dec.{eqb}
 use borrow.Author.Tests.{eqb-true, eqb-false}
 use Rattle.lines.specs.Line.{choose}
 use Rattle.terms.specs.Term.{Term}
-use Rattle.rules.specs.Process.{Address, Process, main, cells, right-side}
+use Rattle.rules.specs.Process.{Address, Process, main, cells}
 use Rattle.rules.specs.Track.{Pair, labelled, parents}
 use Rattle.rules.specs.Step.{step}
 use Rattle.rules.specs.Run.{State, start, stands, cell-room, arc-room}
@@ -27,7 +27,7 @@ use Rattle.control.proofs.Capped.{capped-small}
 use Rattle.weighing.proofs.Told as Told
 use Rattle.weighing.proofs.Told.{From, weight-of, from-at}
 use Rattle.weighing.proofs.Since.{Leads, counted, rooted-below}
-use Rattle.weighing.proofs.TermTold.{planned-levels, untouched-cells}
+use Rattle.weighing.proofs.TermTold.{planned-levels, rhs-cells}
 use Rattle.weighing.proofs.ControlTold.{whole-told}
 use Rattle.offers.specs.words.Told.{Controls, starts, stands as stands-there}
 use Rattle.control.specs.words.Views.{pairs, arcs-of}
@@ -43,12 +43,6 @@ pairs-lead g i (suc n) = (ap (track-word g) (omega arith), pairs-lead g (suc i) 
 
 pub arcs-lead : (g : List ℕ) (n : ℕ) (as′ : List Pair) → arcs-of g n ≡ as′ → Leads g 0 as′
 arcs-lead g n as′ e = subst (Leads g 0) e (pairs-lead g 0 n)
-
--- a definition's right-hand side is one cell
-pub rhs-cells : (n : ℕ) (o : Option Term) → cells (right-side n o) ≡ 1
-unfolding right-side cells
-rhs-cells n none = refl
-rhs-cells n (some t) = untouched-cells _ t
 
 -- of a control that does not stand at reference 0 the words hold it
 pub there-held : (l : Layout) (p x w : List ℕ) (n : ℕ) (P : Process) → Controls l p x w n P → (n ≡ 0 → ⊥)

@@ -14,7 +14,7 @@ use Rattle.numbering.specs.code.Numbered.{order-by, arcs-by, meetings-by, label
 use Rattle.framing.specs.words.Told.{graph-told}
 use Rattle.writing.specs.words.Slice.{answer, left}
 use Rattle.writing.specs.declared.Saved.{Saved}
-use Rattle.saving.specs.code.Saving.{marks-from, marks, labels-saved, graph-saved, counts, text-of}
+use Rattle.saving.specs.code.Saving.{marks-from, marks, counts, text-of}
 use Rattle.saving.specs.words.Kept.{Saves}
 use Rattle.saving.proofs.Promises.{saves}
 use Rattle.runs.specs.words.Held.{lent}
@@ -56,9 +56,8 @@ module _ (ks os xs rs w g c : List ℕ) (drawn count a m : ℕ) (ms ls to : List
       → slice′ ≡ left (graph-text (graph-told (columns ks os xs rs) ls to n)) slice
       → ((r ≡ answer (text-of ks os xs rs w g c) (length slice))
       × (slice′ ≡ left (text-of ks os xs rs w g c) slice))
-      × ((ls ≡ labels-saved ks xs w g c) × (to ≡ graph-saved ks xs w g c))
       × Saves (columns ks os xs rs) (lent w g c) slice r slice′
   assembled r slice slice′ answered written =
       let e = answered ∙ ap (λ t. answer t (length slice)) text-told in
       let f = written ∙ ap (λ t. left t slice) text-told in
-      ((e, f), numbered .1, saves ks os xs rs w g c r slice slice′ e f)
+      ((e, f), saves ks os xs rs w g c r slice slice′ e f)

@@ -9,6 +9,7 @@ use control::LABEL;
 use control::Nodes;
 use control::REFERENCE_WORDS;
 use control::REFERENCES;
+use control::TRACK_WORDS;
 use control::Track;
 use counting::ARCS;
 use counting::FRESH;
@@ -32,8 +33,8 @@ ghost use Rattle.control.specs.words.Words.{reference-room, track-words};
 ghost use Rattle.links.specs.code.Linked.{side-words};
 
 // Saves a run into a slice: the text's length, or refusal 12 with the length that it would have. `Short` leaves the slice as
-// it was, and bytes past the text keep their content. `labels` and `graph` hold the numbered graph afterwards; the other five
-// are scratch, and all 0 afterwards.
+// it was, and bytes past the text keep their content. The slice is all that is written; the other seven are scratch, and all 0
+// afterwards.
 pub fn save(
     kinds: &Kinds,
     owners: &Owners,
@@ -57,10 +58,8 @@ pub fn save(
     ensures { λ _. ⌜ now (text .exit) ≡ left (of.text-of (now (kinds .entry)) (now (owners .entry))
         (now (after .entry)) (now (roots .entry)) (now (nodes .entry)) (now (track .entry)) (now (counters .entry)))
         (now (text .entry)) ⌝ }
-    ensures { λ _. ⌜ now (labels .exit) ≡ of.labels-saved (now (kinds .entry)) (now (after .entry))
-        (now (nodes .entry)) (now (track .entry)) (now (counters .entry)) ⌝ }
-    ensures { λ _. ⌜ now (graph .exit) ≡ of.graph-saved (now (kinds .entry)) (now (after .entry))
-        (now (nodes .entry)) (now (track .entry)) (now (counters .entry)) ⌝ }
+    ensures { λ _. ⌜ now (labels .exit) ≡ replicate reference-room 0 ⌝ }
+    ensures { λ _. ⌜ now (graph .exit) ≡ replicate track-words 0 ⌝ }
     ensures { λ _. ⌜ now (marks .exit) ≡ replicate reference-room 0 ⌝ }
     ensures { λ _. ⌜ now (sides .exit) ≡ replicate side-words 0 ⌝ }
     ensures { λ _. ⌜ now (pending .exit) ≡ replicate side-words 0 ⌝ }
@@ -85,8 +84,11 @@ pub fn save(
         numbers,
         spare,
     );
+    let saved = write(counts, labels, graph, kinds, owners, after, roots, text);
+    *labels = [0u16; REFERENCES];
+    *graph = [0u16; TRACK_WORDS];
     *marks = [0u16; REFERENCES];
-    write(counts, labels, graph, kinds, owners, after, roots, text)
+    saved
 }
 
 // Takes the marks of the first so many references from a run's nodes into a column.

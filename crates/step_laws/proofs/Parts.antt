@@ -32,6 +32,7 @@ use Rattle.control.specs.words.Control.{Rests, HoldsControl}
 use Rattle.control.proofs.NodeLaws.{Whole}
 use Rattle.control.proofs.Framed.{Same, Lasting, words-lasting, untouched-told}
 use Rattle.control.specs.words.Sums.{capped}
+use Rattle.weighing.proofs.TermTold.{untouched-cells}
 use Rattle.drawing.specs.code.Drawing.{one-node, one-arc, one-met, drawn, labelled, standing, with-arc}
 use Rattle.drawing.specs.code.Drawing.{with-met}
 use Rattle.control.specs.words.Views.{arcs-of, event-nodes, marked, place-told, first-of}
@@ -353,16 +354,6 @@ module _ (l : Layout) (p x w : List ℕ) (i o : ℕ) where
 
   pub untouched-formed : (P : Process) → Untouched l p x w i o P → Formed P
   untouched-formed P u = subst Formed (sym (u .is)) (tree-formed (u .tree) (u .planned))
-
--- an untouched term is one cell
-pub untouched-cells : (v : Place) (t : Term) → cells (untouched v t) ≡ 1
-unfolding cells untouched joined
-untouched-cells v (Term.leaf l) = refl
-untouched-cells v (Term.prefix e t) = refl
-untouched-cells v (Term.binary Term.internal t u) = refl
-untouched-cells v (Term.binary external t u) = refl
-untouched-cells v (Term.binary Term.sequence t u) = refl
-untouched-cells v (Term.binary (parallel x) t u) = refl
 
 module _ (l : Layout) (p x w : List ℕ) where
   -- what rests is held

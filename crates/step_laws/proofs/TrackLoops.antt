@@ -7,7 +7,7 @@ use mathlib.Core.Bool.{Bool, true, false, _||_}
 use mathlib.Core.List.{List, [], _∷_, _++_}
 use mathlib.Core.Option.{some}
 use native.Mathlib.Omega.{arith}
-use native.Mathlib.Nat.{zero-add, add-zero, add-assoc, zero-mul, suc-mul}
+use native.Mathlib.Nat.{zero-add, add-zero, add-assoc, suc-mul}
 use lib.ListN.{length, length-append}
 use lib.Dec.{eqb}
 use borrow.Author.Tests.{lt-ltb, le-ltb, eqb-true, eqb-false, eq-eqb, ne-eqb}
@@ -17,6 +17,7 @@ use Rattle.rules.specs.Track as Track
 use Rattle.control.specs.words.Words.{track-words, track-word, event-node}
 use Rattle.control.specs.words.Sums.{capped}
 use Rattle.looking.specs.code.Looking.{leads}
+use Rattle.weighing.proofs.SideTold.{each-length, meet-length}
 use Rattle.drawing.specs.declared.Tally.{Tally}
 use Rattle.drawing.specs.code.Drawing.{one-arc, one-meeting, with-arc, with-meeting, Kept, kept, met-each}
 use Rattle.drawing.specs.code.Drawing.{met-all, joined}
@@ -202,19 +203,7 @@ met-each-told n p (suc c) i k g l r s =
     (rw on at (met-each-told n p c (suc i) (one-meeting k) g′ (meeting-length n m (k .meetings) g ∙ l)
     (omega arith) (rw on (s .1))))
 
--- how many meetings these are
-with-length : (n : ℕ) (ys : List ℕ) → length (each-with n ys) ≡ length ys
-unfolding each-with
-with-length n [] = refl
-with-length n (y ∷ ys) = ap suc (with-length n ys)
-
-meet-length : (xs ys : List ℕ) → length (meet xs ys) ≡ length xs * length ys
-unfolding meet
-meet-length [] ys = sym (zero-mul (length ys))
-meet-length (x ∷ xs) ys =
-    length-append (each-with x ys) (meet xs ys)
-    ∙ omega (arith, with-length x ys, meet-length xs ys, suc-mul (length xs) (length ys))
-
+-- how many event nodes and meetings these are
 pub nodes-length : (g : List ℕ) (i c : ℕ) → length (event-nodes g i c) ≡ c
 unfolding event-nodes
 nodes-length g i zero = refl
@@ -235,7 +224,7 @@ met-all-told (suc a) i j b k g l r s t =
     let n : ℕ = event-node i g in
     let ys : List ℕ = event-nodes g j b in
     let d : Kept = met-each n j b k g in
-    let many : length (each-with n ys) ≡ b = with-length n ys ∙ nodes-length g j b in
+    let many : length (each-with n ys) ≡ b = each-length n ys ∙ nodes-length g j b in
     let room : k .meetings + (b + a * b) ≤ 4096 = omega (arith, suc-mul a b) in
     let v : Told meeting k g d (each-with n ys) = met-each-told n (s .0) b j k g l (omega arith) t in
     let up : d .tally .meetings ≡ k .meetings + length (each-with n ys) = told-count v in

@@ -44,12 +44,12 @@ in-front i (some y) =
     stepped (around i (y .outcome) (y .outcome .event) (y .outcome .process) (y .outcome .reference)) (y .unused)
 
 -- each meets each
-each-length : (x : ℕ) (ys : List ℕ) → length (each-with x ys) ≡ length ys
+pub each-length : (x : ℕ) (ys : List ℕ) → length (each-with x ys) ≡ length ys
 unfolding each-with
 each-length x [] = refl
 each-length x (y ∷ ys) = ap suc (each-length x ys)
 
-meet-length : (xs ys : List ℕ) → length (meet xs ys) ≡ length xs * length ys
+pub meet-length : (xs ys : List ℕ) → length (meet xs ys) ≡ length xs * length ys
 unfolding meet
 meet-length [] ys = sym (zero-mul (length ys))
 meet-length (x ∷ xs) ys =

@@ -88,10 +88,11 @@ untouched-on v (binary external t u) = refl
 untouched-on v (binary sequence t u) = refl
 untouched-on v (binary (parallel y) t u) = refl
 
-right-cells : (n : ℕ) (t : Option Term) → cells (right-side n t) ≡ 1
+-- a definition's right-hand side is one cell
+pub rhs-cells : (n : ℕ) (t : Option Term) → cells (right-side n t) ≡ 1
 unfolding right-side cells
-right-cells n none = refl
-right-cells n (some t) = untouched-cells (record { definition = n; path = [] }) t
+rhs-cells n none = refl
+rhs-cells n (some t) = untouched-cells (record { definition = n; path = [] }) t
 
 -- a term's number
 pub kind-room : (p : List ℕ) (i : ℕ) → 1 ≤ kind p i → i < 1024
@@ -191,7 +192,7 @@ module _ (ts : List Term) (l : Layout) (p x : List ℕ) (count : ℕ) (ds : List
   unfolding of-term leaf-kind is-split by-leaf untouched step cells
   leaf-told (call n) left i o nested at size qs a s pl f lv u w e few =
       rw (pl .0)
-      (leaf-on ds count at size qs a f e (omega arith) (rhs ts n) (l .place i) s (right-cells n (getElem? ts n)))
+      (leaf-on ds count at size qs a f e (omega arith) (rhs ts n) (l .place i) s (rhs-cells n (getElem? ts n)))
   leaf-told SKIP left i o nested at size qs a s pl f lv u w e few =
       rw (pl .0, pl .1, w) (leaf-settled ds count at size qs a f e (omega arith) u ✓ Ω (l .place i) s refl)
   leaf-told STOP left i o nested at size qs a s pl f lv u w e few =

@@ -38,7 +38,8 @@ returns : tie.Need-returns Inv-loop μ-loop
 returns c =
     let turn = c .before .before in
     let going = turn .before .before .before .before .before .loop .inv in
-    going-stops going (turn .play .ensures) (c .before .match .keys2) (c .stopped .ensures)
+    let behind = turn .play .ensures in
+    going-stops going (behind .0, behind .1 .0) (c .before .match .keys2) (c .stopped .ensures)
     (turn .before .before .before .before .before .before .before .before .pre)
 
 put-event-requires : tie.Need-put-event-requires Inv-loop μ-loop
@@ -57,14 +58,16 @@ loop-less c =
     let known = c .before .before .before .before .before in
     let turn = known .before .before in
     let going = turn .before .before .before .before .before .loop .inv in
-    omega (arith, going-on going (turn .play .ensures) (known .played .given .1))
+    let behind = turn .play .ensures in
+    omega (arith, going-on going (behind .0, behind .1 .0) (known .played .given .1))
 
 loop-again : tie.Need-loop-again Inv-loop μ-loop
 loop-again c =
     let known = c .before .before .before .before .before in
     let turn = known .before .before in
     let going = turn .before .before .before .before .before .loop .inv in
-    going-turn going (turn .play .ensures) (known .played .given .1) (c .before .before .put-event .ensures)
+    let behind = turn .play .ensures in
+    going-turn going (behind .0, behind .1 .0) (known .played .given .1) (c .before .before .put-event .ensures)
 
 pub put-steps-spec : {M : Type 1} → statement M
 put-steps-spec =

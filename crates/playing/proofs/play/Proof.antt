@@ -1,5 +1,5 @@
 -- `playing::play` meets its contract: a line that asks for no step leaves every word as it was, and one that
--- asks for a step comes to what the step answers. Assumes nothing.
+-- asks for a step comes to what the step answers; what that says of a run is told with it. Assumes nothing.
 use Rattle.playing.proofs.Laws.{no-step-played, refused-played, shown-played}
 use borrow.Author.Needs.{needs}
 use Rattle.playing.proofs.play.Statement.{statement}

@@ -9,7 +9,7 @@ use Rattle.scripts.specs.declared.ScriptStep.the-variants as Line
 use Rattle.runs.specs.declared.Answer.{Answer}
 use Rattle.runs.specs.declared.Answer.the-variants.{Accepted, Refused}
 use Rattle.playing.specs.declared.Played.{Played}
-use Rattle.playing.specs.declared.Played.the-variants as Plays
+use Rattle.playing.specs.declared.Played.the-variants as Comes
 use Rattle.runs.specs.code.Doors.{Stepped, stepped}
 
 -- what a line of a script comes to, with the words after it
@@ -23,13 +23,13 @@ abbrev pub with-played : Played → List ℕ → List ℕ → List ℕ → Line-
 with-played r w g c = record { played = r; nodes = w; track = g; counters = c }
 
 unfoldable pub of-answer : ℕ → Answer → Played
-of-answer next (Accepted s) = Plays.Stepped (s .event) next
-of-answer next (Refused n) = Plays.Refused n
+of-answer next (Accepted s) = Comes.Stepped (s .event) next
+of-answer next (Refused n) = Comes.Refused n
 
 unfoldable pub without-step : ScriptStep → Played
-without-step (Line.Address n next) = Plays.End
-without-step (Line.Refused n) = Plays.Refused n
-without-step Line.End = Plays.End
+without-step (Line.Address n next) = Comes.End
+without-step (Line.Refused n) = Comes.Refused n
+without-step Line.End = Comes.End
 
 module _ (p x w g c : List ℕ) where
   abbrev pub unplayed : Played → Line-played
@@ -41,8 +41,8 @@ module _ (p x w g c : List ℕ) where
   -- by what the line asks for, with its digits in the lent array
   unfoldable pub by-line : ScriptStep → List ℕ → Line-played
   by-line (Line.Address n next) ds = step-played next (stepped p x n ds w g c)
-  by-line (Line.Refused n) ds = unplayed (Plays.Refused n)
-  by-line Line.End ds = unplayed Plays.End
+  by-line (Line.Refused n) ds = unplayed (Comes.Refused n)
+  by-line Line.End ds = unplayed Comes.End
 
   -- the first of a script's lines, where they stand from `at` on
   unfoldable pub played : ℕ → List Raw → List ℕ → Line-played

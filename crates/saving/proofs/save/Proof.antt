@@ -1,5 +1,5 @@
--- `saving::save` meets its contract: put together, what its calls give is the saved text with the numbered
--- graph, and the marks are cleared last. Assumes nothing.
+-- `saving::save` meets its contract: put together, what its calls give is the saved text, and the numbered graph and the marks are
+-- cleared last. Assumes nothing.
 use mathlib.Core.Path.{refl}
 use borrow.Author.Needs.{needs}
 use Rattle.saving.proofs.Assembled.{assembled}
@@ -41,8 +41,8 @@ same-length c = search needs
 
 returns : tie.Need-returns
 returns c =
-    let written = c .before .before in
-    let numbered = written .before .before .before .before .before in
+    let written = c .before .before .before .before .before in
+    let numbered = written .before .before .before .before in
     let counted = numbered .before .before .before .before .before .before .before .before in
     let taken = counted .before .before .before .before in
     let lent = taken .before .before .before .before .before .before .args in
@@ -57,10 +57,10 @@ returns c =
       (
         done .0 .1,
         (
-          done .1 .0,
+          refl,
           (
-            done .1 .1,
-            (refl, (scratch .0, (scratch .1 .0, (scratch .1 .1 .0, (scratch .1 .1 .1, done .2))))),
+            refl,
+            (refl, (scratch .0, (scratch .1 .0, (scratch .1 .1 .0, (scratch .1 .1 .1, done .1))))),
           ),
         ),
       ),

@@ -1,0 +1,2 @@
+-- Layouts of words and invariants: `Account`, what playing a line owes a run.
+pub mod Account
