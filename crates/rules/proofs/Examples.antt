@@ -2,7 +2,8 @@
 -- and 8), 5 (Fig. 6) and 7 (Fig. 9 and 10), each with its events and the whole state behind it; and Fig. 4 rule
 -- by rule. a is event 0, b event 1, MAIN definition 0 and P definition 1. The pictures of Fig. 5, 6, 8, 9 and 10
 -- are not in the text that we have: what is held against the report is what its sentences say of them. No
--- number differs. Nodes and arcs stand in the order made. Assumes nothing.
+-- number differs; of Fig. 6 they have none, so that its numbers are ours alone. Nodes and arcs stand in the
+-- order made. Assumes nothing.
 use Prim.Native.Nat.{ℕ}
 use mathlib.Core.Path.{_≡_, refl}
 use mathlib.Core.List.{List, [], _∷_, map}
