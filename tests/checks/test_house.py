@@ -19,6 +19,7 @@ HEADINGS = ["frames", "rules", "saving", "programs"]
 HANDED_ABOUT = {"play": {"offering", "rules"}}  # an event in what a script's line comes to, and what is offered
 LOGIC_LIBRARIES = ("Prim", "mathlib", "lib")
 FRONT_PAGES = {"Lib.antt": "", "words.antt": "words/", "code.antt": "code/"}  # of specs/, and what each is of
+SETTLED = "crates/outcomes/proofs/Doors.antt"
 KINDS = {"": "meaning", "words": "words", "code": "code"}  # of definitions, by their folder below specs/
 
 
@@ -213,6 +214,69 @@ def unnamed_doors(root):
         whole = f"{one.crate}::{one.name}"
         if not any(whole in names or one.name in names and names_crate(names, one.crate) for names in named):
             yield f"{whole} ({one.file}:{one.line})"
+
+
+def doors(text):
+    """The doors of docs/DOORS.md: what the first cells of the table of doors name, each with its crate."""
+    table = re.search(r"^\| door \|.*\n\|[-|]+\n((?:\|.*\n)*)", text, re.MULTILINE)
+    for row in table[1].splitlines() if table else ():
+        crate = None
+        for name in re.findall(r"`([^`]+)`", row.split("|")[1]):
+            crate, _, function = name.rpartition("::") if "::" in name else (crate, "", name)
+            yield crate, function
+
+
+def unsettled_doors(root):
+    """Doors of docs/DOORS.md of which no law says that their promise settles the outcome."""
+    laws = sources.text_of(root, SETTLED)
+    for crate, function in doors(sources.text_of(root, "docs/DOORS.md")):
+        law = f"{crate}-{function}-settled".replace("_", "-")
+        if not re.search(rf"^pub {re.escape(law)} : Settles ", laws, re.MULTILINE):
+            yield f"{crate}::{function}: no law {law} in {SETTLED}"
+
+
+# ---- demands
+
+
+def demands(text):
+    """The theorems that the table of docs/DEMANDS.md names, behind the customer's sentences."""
+    table = re.search(r"^\| the customer's sentence \|.*\n\|[-|]+\n((?:\|.*\n)*)", text, re.MULTILINE)
+    rows = table[1].splitlines() if table else ()
+    return {name for row in rows for name in named_in(row.split("|")[2]) if "::" not in name}
+
+
+def statements_of(text):
+    """By name, the public laws of a file: each as its signature, with the heads of the modules around it."""
+    heads, found = [], {}
+    for piece in re.split(r"\n(?=\s*\S)", sources.antt_code(text)):
+        depth = len(piece) - len(piece.lstrip())
+        law = re.match(r"\s*pub ([^\s:({]+) :", piece)
+        if heads and heads[-1][0] < depth and not heads[-1][1].rstrip().endswith("where"):
+            heads[-1][1] += "\n" + piece
+        elif piece.lstrip().startswith("module "):
+            heads = [head for head in heads if head[0] < depth] + [[depth, piece]]
+        elif law:
+            around = [head[1] for head in heads if head[0] < depth]
+            name, edge = law[1], depth
+            found[name] = "\n".join([*around, piece])
+        elif found and depth > edge:
+            found[name] += "\n" + piece
+        else:
+            edge = 1000
+    return found
+
+
+def demands_in_own_words(root):
+    """Types in the statement of a demand's theorem that are declared among proofs."""
+    wanted = demands(sources.text_of(root, "docs/DEMANDS.md"))
+    for file in sources.files(root, "*/proofs/*.antt"):
+        text = sources.text_of(root, file)
+        read = sources.AnttFile(text)
+        own = set(read.declarations) | {one.local for one in read.imports if ".proofs." in one.module}
+        for name, statement in statements_of(text).items():
+            types = {path for path in sources.cited_paths(statement) if path[0].isupper() and path in own}
+            if name in wanted and types:
+                yield f"{file}: {name} is stated with {', '.join(sorted(types))}"
 
 
 # ---- front pages
@@ -437,6 +501,59 @@ pub fn main() {
     def test_the_crate_stands_in_the_same_row_or_sentence(self):
         rows = ("| `walks::walk` | told |", "| `link` | told |")
         self.assertEqual(self.unnamed(*rows, "", "In `walks` too. See `wide`."), ["walks::link", "walks::wide"])
+
+    def test_settled_by_name(self):
+        root = self.tree("""\
+== outcomes/proofs/Doors.antt
+pub walks-walk-settled : Settles walk.Learnt (λ κ x s. x)
+pub sets-is-in-settled : Settles is-in.Learnt (λ κ x s. x)
+-- pub sets-only-settled : Settles
+== /docs/DOORS.md
+| door | promise |
+|---|---|
+| `walks::walk` | by `link` |
+| `sets::is_in`, `only` | told |
+
+| crate | functions |
+|---|---|
+| `walks` | `wide` |
+""")
+        self.assertEqual([fault.split(": ")[0] for fault in unsettled_doors(root)], ["sets::only"])
+
+
+class Demands(MadeUp):
+    def test_types_of_a_statement(self):
+        root = self.tree("""\
+== a/proofs/Laws.antt
+use Rattle.a.specs.Run.{Answer}
+use Rattle.a.proofs.Other.{Held, held-law}
+
+abbrev pub Kept : ℕ → Type 0
+Kept n = Unit {0}
+
+module _ (n : ℕ)
+    (h : Held n) where
+  pub said : Answer
+      → Answer
+  said = held-law n
+
+  pub kept-on : Kept n
+  kept-on = Kept-too
+
+pub plain : Answer
+plain = Kept
+
+pub other : Kept 0
+== /docs/DEMANDS.md
+| the customer's sentence | theorem | file |
+|---|---|---|
+| "a" | `said`, `a::door` | `Kept` |
+| "b" | `plain`; `kept-on` | |
+""")
+        self.assertEqual(
+            [fault.split(": ")[1] for fault in demands_in_own_words(root)],
+            ["said is stated with Held", "kept-on is stated with Held, Kept"],
+        )
 
 
 class FrontPages(MadeUp):
@@ -727,6 +844,12 @@ class House(unittest.TestCase):
             "Name each in docs/DOORS.md as `crate::function`, or as `function` in a row or sentence that names its "
             "crate; or let the crate not export it:",
         )
+
+    def test_demands_are_stated_by_definitions(self):
+        self.hold(demands_in_own_words, "Let each of these stand in specs/, where a reader looks for it:")
+
+    def test_doors_are_settled(self):
+        self.hold(unsettled_doors, "State for each that two outcomes which its promise allows are equal:")
 
     def test_nothing_is_unused(self):
         self.hold(needless, "Take it away, or name it in docs/ as the door or the theorem that it is:")

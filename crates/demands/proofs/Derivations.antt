@@ -14,36 +14,29 @@ use Rattle.columns.specs.words.Columns.{all-columns}
 use Rattle.tables.specs.Table.{Sofar}
 use Rattle.tables.specs.words.Columns.{Table-of}
 use Rattle.terms.specs.Term.{Term, definitions-of}
-use Rattle.places.specs.Place.{Place, left-path}
 use Rattle.rules.specs.declared.Event.{Event}
 use Rattle.rules.specs.declared.Event.the-variants.{Tau as τ}
-use Rattle.rules.specs.Process.{Address, rhs}
+use Rattle.rules.specs.Process.{Address}
 use Rattle.rules.specs.Track.{Outcome, labelled}
-use Rattle.rules.specs.Tracking.{Tracks, process-call}
+use Rattle.rules.specs.Tracking.{process-call}
 use Rattle.rules.specs.Plain.{Plain, strip}
 use Rattle.rules.specs.Plain as Fig3
 use Rattle.rules.specs.Stopping.{LeadsToSTOP}
 use Rattle.rules.specs.Run.{State, start, stands, after, over-room, answer}
 use Rattle.rules.specs.Run as Run
 use Rattle.rules.specs.Addressed.{spelled, answered}
+use Rattle.rules.specs.Derivation.{Named, first-step}
 use Rattle.rules.proofs.Answered.{accepted-exactly, seven-exactly, room-exactly}
 use Rattle.rules.proofs.Stripped.{tracked-plainly, plainly-tracked}
-use Rattle.runs.specs.words.Held.{address-from, addressed, told, behind, Words}
+use Rattle.plans.specs.words.Layout.{layout}
+use Rattle.runs.specs.words.Held.{address-from, addressed, told, behind, Words, Begins}
 use Rattle.runs.specs.declared.Answer.{Answer}
-use Rattle.runs.specs.declared.Answer.the-variants.{Accepted, Refused}
+use Rattle.runs.specs.declared.Answer.the-variants.{Refused}
 use Rattle.runs.specs.declared.Shown.{Shown}
 use Rattle.runs.proofs.Spelled.{spelled-array}
 use Rattle.weighing.proofs.TermTold.{rhs-cells}
-use Rattle.demands.specs.words.Words.{Planned, HoldsRun, Steps}
+use Rattle.demands.specs.words.Words.{Planned, HoldsRun, Steps, shows}
 use Rattle.demands.proofs.Exchanged.{for-runs, step-by}
-
--- the left-hand side of definition 00
-abbrev left-side : Place
-left-side = record { definition = 0; path = left-path }
-
--- an answer that shows an event
-abbrev shows : Event → Answer
-shows e = Accepted (record { event = e })
 
 -- the answer of a case tells the case
 accepted-shown : (o : Run.Answer) (e : Event) → told o ≡ shows e → (u : State) × (o ≡ Run.accepted e u)
@@ -64,10 +57,6 @@ module _ {text ks ps os xs rs p x : List ℕ} {t : Sofar} (table : Table-of text
   abbrev ts : List Term
   ts = definitions-of t
 
-  -- a derivation of Fig. 7 that an address names from where the run stands
-  abbrev pub Named : Address → Outcome → Type 0
-  Named a o = Tracks ts a (s .process) (stands s) o
-
   -- an outcome that the promise of a step allows, by digits that are an address
   module _ (ds : List ℕ) (count : ℕ) (a : Address) (named : addressed ds count ≡ some a) (r : Answer) (v′ : Words)
       (step : Steps p x ds count v r v′) where
@@ -77,7 +66,7 @@ module _ {text ks ps os xs rs p x : List ℕ} {t : Sofar} (table : Table-of text
     -- "An address is accepted exactly when the 2010 report's tracking rules have a derivation so named and its result fits
     -- the stated room."
     pub accepted-through : (e : Event)
-        → (r ≡ shows e) ↔ ((o : Outcome) × Named a o × (o .event ≡ e) × (over-room (after s o) ≡ 0))
+        → (r ≡ shows e) ↔ ((o : Outcome) × Named ts s a o × (o .event ≡ e) × (over-room (after s o) ≡ 0))
     unfolding told
     accepted-through e = (
       λ h.
@@ -90,13 +79,13 @@ module _ {text ks ps os xs rs p x : List ℕ} {t : Sofar} (table : Table-of text
     )
 
     -- "Event, next process and track are those rules'."
-    pub holds-through : (o : Outcome) → Named a o → over-room (after s o) ≡ 0 → HoldsRun p x t v′ (after s o)
+    pub holds-through : (o : Outcome) → Named ts s a o → over-room (after s o) ≡ 0 → HoldsRun p x t v′ (after s o)
     unfolding behind
     holds-through o d fits =
         by-answer _ (accepted-exactly ts s a (o .event) (after s o) .1 (o, d, refl, refl, fits)) .1
 
     -- 7 exactly when there is none
-    pub seven-through : (r ≡ Refused 7) ↔ ((o : Outcome) → Named a o → ⊥)
+    pub seven-through : (r ≡ Refused 7) ↔ ((o : Outcome) → Named ts s a o → ⊥)
     unfolding told
     seven-through = (
       λ h. seven-exactly ts s a .0 (refused-shown (answer ts s a) 7 (sym (by-answer _ refl .0) ∙ h)),
@@ -105,7 +94,7 @@ module _ {text ks ps os xs rs p x : List ℕ} {t : Sofar} (table : Table-of text
 
     -- 8 to 11 exactly by the lowest room that its result passes
     pub room-through : (n : ℕ) → 8 ≤ n
-        → (r ≡ Refused n) ↔ ((o : Outcome) × Named a o × (over-room (after s o) ≡ n))
+        → (r ≡ Refused n) ↔ ((o : Outcome) × Named ts s a o × (over-room (after s o) ≡ n))
     unfolding told
     room-through n least = (
       λ h. room-exactly ts s a n least .0 (refused-shown (answer ts s a) n (sym (by-answer _ refl .0) ∙ h)),
@@ -131,12 +120,12 @@ module _ {text ks ps os xs rs p x : List ℕ} {t : Sofar} (table : Table-of text
   -- "every plain step that room and address length allow has an accepted address": it has an address with its derivation, of
   -- the same event and stripping to the same process
   pub plain-addressed : {q : Plain} {e : Event} → Fig3.Steps ts (strip (s .process)) e q
-      → (a : Address) × (o : Outcome) × Named a o × (o .event ≡ e) × (strip (o .process) ≡ q)
+      → (a : Address) × (o : Outcome) × Named ts s a o × (o .event ≡ e) × (strip (o .process) ≡ q)
   plain-addressed h = plainly-tracked ts h (s .process) refl (stands s)
 
   -- and every such address of at most 1,024 digits whose result fits the room, spelled in front of the lent digits, is
   -- accepted with that event, and the words behind it hold the state behind it
-  pub plain-accepted : {e : Event} (a : Address) (o : Outcome) → Named a o → o .event ≡ e → length a ≤ most
+  pub plain-accepted : {e : Event} (a : Address) (o : Outcome) → Named ts s a o → o .event ≡ e → length a ≤ most
       → over-room (after s o) ≡ 0 → (ds : List ℕ) → length ds ≡ most → (r : Answer) (v′ : Words)
       → Steps p x (sets ds 0 (spelled a)) (length a) v r v′ → (r ≡ shows e) × HoldsRun p x t v′ (after s o)
   plain-accepted {e} a o d shown few fits ds long r v′ step =
@@ -145,18 +134,20 @@ module _ {text ks ps os xs rs p x : List ℕ} {t : Sofar} (table : Table-of text
         holds-through (sets ds 0 (spelled a)) (length a) a named r v′ step o d fits,
       )
 
--- what is called at the start has room
-start-fits : (ts : List Term) → over-room (after start (labelled τ (rhs ts 0) left-side (stands start))) ≡ 0
+-- what the first step calls has room
+first-fits : (ts : List Term) → over-room (after start (first-step ts)) ≡ 0
 unfolding over-room after labelled
-start-fits ts = rw (rhs-cells 0 (getElem? ts 0))
+first-fits ts = rw (rhs-cells 0 (getElem? ts 0))
 
--- "refuses everything": the first step of every table, a call of definition 00, is accepted
+-- the first step of every table is accepted, by the empty address, and the words behind it hold the state behind it
 pub first-accepted : {text ks ps os xs rs p x : List ℕ} {t : Sofar} → Table-of text (all-columns ks ps os xs rs) t
-    → Planned p x t → (v : Words) → HoldsRun p x t v start → (ds : List ℕ) (r : Answer) (v′ : Words)
-    → Steps p x ds 0 v r v′ → r ≡ shows τ
+    → Planned p x t → (v : Words) → Begins v → (ds : List ℕ) (r : Answer) (v′ : Words) → Steps p x ds 0 v r v′
+    → (r ≡ shows τ) × HoldsRun p x t v′ (after start (first-step (definitions-of t)))
 unfolding labelled address-from
-first-accepted {t = t} table planned v held ds r v′ step =
+first-accepted {t = t} table planned v begins ds r v′ step =
     let ts = definitions-of t in
-    let o = labelled τ (rhs ts 0) left-side (stands start) in
-    accepted-through table planned v start held ds 0 [] refl r v′ step τ .1
-    (o, process-call, refl, start-fits ts)
+    let held = begins (layout t) _ _ ts in
+    let fits = first-fits ts in (
+      accepted-through table planned v start held ds 0 [] refl r v′ step τ .1 (first-step ts, process-call, refl, fits),
+      holds-through table planned v start held ds 0 [] refl r v′ step (first-step ts) process-call fits,
+    )

@@ -1,6 +1,6 @@
 -- What a caller may rely on. By induction over the sides of terms each literal of a term has exactly one
 -- place, of at most 64 digits, and following columns which hold a term gives its paths; so the door `place`
--- answers with the places of a table's literals, and its promise leaves no choice. Assumes nothing.
+-- answers with the places of a table's literals. Assumes nothing.
 use Prim.Native.Nat.{ℕ, zero, suc, _+_, _≤_, _<_}
 use mathlib.Core.Path.{_≡_, refl, sym, ap, _∙_}
 use mathlib.Core.Bool.{Bool, true, false}
@@ -30,7 +30,6 @@ use Rattle.places.specs.code.Descent.{next, digit, below, descended, pat
 use Rattle.places.specs.code.Descent.{literal-path, literal-definition, told, answer}
 use Rattle.places.specs.declared.Literal.{Literal as Asked}
 use Rattle.places.specs.declared.Literal.the-variants.{Left, Own, Event}
-use Rattle.places.specs.declared.Placed.{Placed}
 use Rattle.places.specs.declared.Placed.the-variants.{At, Nowhere}
 use Rattle.places.proofs.Sides.{Side, only, first, second, by-number, path-root, term-root}
 use Rattle.places.proofs.Sides.{literal-root, side-first, side-inside, side-at, side-literal}
@@ -38,7 +37,6 @@ use Rattle.places.proofs.Sides.{side-shallow, prefix-inside}
 use Rattle.columns.proofs.Laws.{look-in}
 use Rattle.places.proofs.Ways.{step-only, step-first, step-second, descended-here, descended-short}
 use Rattle.places.proofs.Ways.{descended-leaf, descended-step}
-use Rattle.places.proofs.Literals.{Places}
 
 -- literals numbered from another start
 shifted-zero : (o : Option Literal) → shifted 0 o ≡ o
@@ -392,8 +390,3 @@ module _ (c : Columns) (k : ℕ) (t : Term) (there : Defined c k t) (j : ℕ)
       go : (b : Bool) → told (literal-definition c (Event j)) (choose b none none) ≡ Nowhere
       go true = refl
       go false = refl
-
--- two outcomes that the promise of `place` allows, of one literal, columns and array, are equal
-pub place-settled : (c : Columns) (l : Asked) (p : List ℕ) (x₁ x₂ : Placed) (p₁ p₂ : List ℕ)
-    → Places c l p x₁ p₁ → Places c l p x₂ p₂ → (x₁ ≡ x₂) × (p₁ ≡ p₂)
-place-settled c l p x₁ x₂ p₁ p₂ f g = (f .0 ∙ sym (g .0), f .1 ∙ sym (g .1))

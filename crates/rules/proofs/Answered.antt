@@ -15,7 +15,7 @@ use Rattle.terms.specs.Term.{Term}
 use Rattle.rules.specs.declared.Event.{Event}
 use Rattle.rules.specs.Process.{Address, cells}
 use Rattle.rules.specs.Track.{Outcome}
-use Rattle.rules.specs.Tracking.{Tracks}
+use Rattle.rules.specs.Derivation.{Named}
 use Rattle.rules.specs.Step.{Stepped, stepped, step}
 use Rattle.rules.specs.Run.{State, stands, after, over-room, cell-room, node-room, arc-room}
 use Rattle.rules.specs.Run.{meeting-room, accepted, refused, within-room, whole, answered, answer}
@@ -42,26 +42,22 @@ unused-of none = []
 unused-of (some x) = x .unused
 
 module _ (ts : List Term) (s : State) (a : Address) where
-  -- a derivation that the address names
-  abbrev pub Named : Outcome → Type 0
-  Named r = Tracks ts a (s .process) (stands s) r
-
-  -- it decides the answer
-  pub answer-named : (r : Outcome) → Named r → answer ts s a ≡ within-room (over-room (after s r)) (r .event) (after s r)
+  -- a derivation that the address names decides the answer
+  pub answer-named : (r : Outcome) → Named ts s a r → answer ts s a ≡ within-room (over-room (after s r)) (r .event) (after s r)
   unfolding answer answered whole
   answer-named r d = rw (step-exactly ts (s .process) (stands s) a r .1 d)
 
   -- the address names a derivation, or is answered 7 and names none
-  pub named-or-not : ((r : Outcome) × Named r) ⊎ ((answer ts s a ≡ refused 7) × ((r : Outcome) → Named r → ⊥))
+  pub named-or-not : ((r : Outcome) × Named ts s a r) ⊎ ((answer ts s a ≡ refused 7) × ((r : Outcome) → Named ts s a r → ⊥))
   unfolding answer answered whole
   named-or-not = go (step ts (s .process) (stands s) a) refl
     where
       none-named : (o : Option Stepped) → step ts (s .process) (stands s) a ≡ o
-          → ((r : Outcome) → o ≡ stepped r [] → ⊥) → (r : Outcome) → Named r → ⊥
+          → ((r : Outcome) → o ≡ stepped r [] → ⊥) → (r : Outcome) → Named ts s a r → ⊥
       none-named o e h r d = h r (sym e ∙ step-exactly ts (s .process) (stands s) a r .1 d)
 
       by-unused : (r : Outcome) (u : Address) → step ts (s .process) (stands s) a ≡ stepped r u
-          → ((r : Outcome) × Named r) ⊎ ((whole u (r .event) (after s r) ≡ refused 7) × ((r : Outcome) → Named r → ⊥))
+          → ((r : Outcome) × Named ts s a r) ⊎ ((whole u (r .event) (after s r) ≡ refused 7) × ((r : Outcome) → Named ts s a r → ⊥))
       by-unused r [] e = inl (r, step-exactly ts (s .process) (stands s) a r .0 e)
       by-unused r (d ∷ u) e =
           inr (
@@ -71,7 +67,7 @@ module _ (ts : List Term) (s : State) (a : Address) where
           )
 
       go : (o : Option Stepped) → step ts (s .process) (stands s) a ≡ o
-          → ((r : Outcome) × Named r) ⊎ ((answered s o ≡ refused 7) × ((r : Outcome) → Named r → ⊥))
+          → ((r : Outcome) × Named ts s a r) ⊎ ((answered s o ≡ refused 7) × ((r : Outcome) → Named ts s a r → ⊥))
       go none e = inr (refl, none-named none e (λ t q. let z : _≡_ {A = ℕ} 0 1 = cc in omega arith))
       go (some x) e = by-unused (x .outcome) (x .unused) e
 
@@ -88,13 +84,13 @@ module _ (ts : List Term) (s : State) (a : Address) where
   -- An address is accepted exactly when the report's tracking rules have a derivation so named and its result
   -- fits the stated room; event, next process and track are those rules'.
   pub accepted-exactly : (e : Event) (t : State)
-      → (answer ts s a ≡ accepted e t) ↔ ((r : Outcome) × Named r × (r .event ≡ e) × (after s r ≡ t) × (over-room t ≡ 0))
+      → (answer ts s a ≡ accepted e t) ↔ ((r : Outcome) × Named ts s a r × (r .event ≡ e) × (after s r ≡ t) × (over-room t ≡ 0))
   accepted-exactly e t = (to, from)
     where
-      to : answer ts s a ≡ accepted e t → (r : Outcome) × Named r × (r .event ≡ e) × (after s r ≡ t) × (over-room t ≡ 0)
+      to : answer ts s a ≡ accepted e t → (r : Outcome) × Named ts s a r × (r .event ≡ e) × (after s r ≡ t) × (over-room t ≡ 0)
       to h = ⊎-elim named (λ n. let q = n .0 in let z : _≡_ {A = ℕ} 0 1 = cc in absurd (omega arith)) named-or-not
         where
-          named : (r : Outcome) × Named r → (r : Outcome) × Named r × (r .event ≡ e) × (after s r ≡ t) × (over-room t ≡ 0)
+          named : (r : Outcome) × Named ts s a r → (r : Outcome) × Named ts s a r × (r .event ≡ e) × (after s r ≡ t) × (over-room t ≡ 0)
           named d =
               let u = after s (d .0) in
               let told = answer-named (d .0) (d .1) in
@@ -107,17 +103,17 @@ module _ (ts : List Term) (s : State) (a : Address) where
               let z : _≡_ {A = ℕ} 0 1 = cc in absurd (omega arith))
               (room-numbers u)
 
-      from : (r : Outcome) × Named r × (r .event ≡ e) × (after s r ≡ t) × (over-room t ≡ 0) → answer ts s a ≡ accepted e t
+      from : (r : Outcome) × Named ts s a r × (r .event ≡ e) × (after s r ≡ t) × (over-room t ≡ 0) → answer ts s a ≡ accepted e t
       from d =
           let z : over-room (after s (d .0)) ≡ 0 = ap over-room (d .3) ∙ d .4 in
           answer-named (d .0) (d .1) ∙ within (over-room (after s (d .0))) (d .0 .event) (after s (d .0)) z
           ∙ ap₂ accepted (d .2) (d .3)
 
   -- 7 exactly when there is no derivation
-  pub seven-exactly : (answer ts s a ≡ refused 7) ↔ ((r : Outcome) → Named r → ⊥)
+  pub seven-exactly : (answer ts s a ≡ refused 7) ↔ ((r : Outcome) → Named ts s a r → ⊥)
   seven-exactly = (to, from)
     where
-      to : answer ts s a ≡ refused 7 → (r : Outcome) → Named r → ⊥
+      to : answer ts s a ≡ refused 7 → (r : Outcome) → Named ts s a r → ⊥
       to h r d =
           ⊎-elim (λ z.
           let other = sym (answer-named r d ∙ within (over-room (after s r)) (r .event) (after s r) z) ∙ h in
@@ -129,14 +125,14 @@ module _ (ts : List Term) (s : State) (a : Address) where
           omega arith)
           (room-numbers (after s r))
 
-      from : ((r : Outcome) → Named r → ⊥) → answer ts s a ≡ refused 7
+      from : ((r : Outcome) → Named ts s a r → ⊥) → answer ts s a ≡ refused 7
       from h = ⊎-elim (λ d. absurd (h (d .0) (d .1))) (λ n. n .0) named-or-not
 
   -- else the lowest limit passed
-  pub room-exactly : (n : ℕ) → 8 ≤ n → (answer ts s a ≡ refused n) ↔ ((r : Outcome) × Named r × (over-room (after s r) ≡ n))
+  pub room-exactly : (n : ℕ) → 8 ≤ n → (answer ts s a ≡ refused n) ↔ ((r : Outcome) × Named ts s a r × (over-room (after s r) ≡ n))
   room-exactly n l = (to, from)
     where
-      named : answer ts s a ≡ refused n → (r : Outcome) × Named r → (r : Outcome) × Named r × (over-room (after s r) ≡ n)
+      named : answer ts s a ≡ refused n → (r : Outcome) × Named ts s a r → (r : Outcome) × Named ts s a r × (over-room (after s r) ≡ n)
       named h d =
           let u = after s (d .0) in
           ⊎-elim (λ z.
@@ -148,7 +144,7 @@ module _ (ts : List Term) (s : State) (a : Address) where
           (d .0, d .1, cc))
           (room-numbers u)
 
-      to : answer ts s a ≡ refused n → (r : Outcome) × Named r × (over-room (after s r) ≡ n)
+      to : answer ts s a ≡ refused n → (r : Outcome) × Named ts s a r × (over-room (after s r) ≡ n)
       to h =
           ⊎-elim (named h) (λ m.
           let same : refused 7 ≡ refused n = sym (m .0) ∙ h in
@@ -156,7 +152,7 @@ module _ (ts : List Term) (s : State) (a : Address) where
           absurd (omega arith))
           named-or-not
 
-      from : (r : Outcome) × Named r × (over-room (after s r) ≡ n) → answer ts s a ≡ refused n
+      from : (r : Outcome) × Named ts s a r × (over-room (after s r) ≡ n) → answer ts s a ≡ refused n
       from d =
           let u = after s (d .0) in
           let k : 8 ≤ over-room u = rw (d .2) l in

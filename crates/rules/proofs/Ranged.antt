@@ -25,7 +25,8 @@ use Rattle.rules.specs.Run.{State, after, refused, answer, Reached, begu
 use Rattle.rules.specs.declared.Status.the-variants.{Stuck as stuck}
 use Rattle.rules.specs.Offers.{status}
 use Rattle.rules.proofs.Answered.{accepted-exactly}
-use Rattle.rules.proofs.Stuck.{Among, stuck-answered}
+use Rattle.rules.specs.Derivation.{Among}
+use Rattle.rules.proofs.Stuck.{stuck-answered}
 
 -- every call of a control is of one of d definitions, and every event is one of e
 abbrev pub Ranged : ℕ → ℕ → Process → Type 0

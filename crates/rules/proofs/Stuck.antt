@@ -24,18 +24,9 @@ use Rattle.rules.specs.declared.Status.the-variants.{Live as live, Ended
 use Rattle.rules.specs.Offers.{leaf-offers, offers-✓, offers-τ, offers-event, offers, offers-some}
 use Rattle.rules.specs.Offers.{status}
 use Rattle.rules.specs.Run.{State, stands, refused, answer}
+use Rattle.rules.specs.Derivation.{Never, Derivable, Among}
 use Rattle.rules.proofs.Answered.{seven-exactly}
 use Rattle.rules.proofs.Offered.{or-left, or-right, or-either, is-Ω, derived-offered, offered-derived}
-
--- every event of a control is below n
-abbrev pub Among : ℕ → Process → Type 0
-Among n (leaf w l) = Unit {0}
-Among n (prefix w e P) = (e < n) × Among n P
-Among n (internal w P Q) = Among n P × Among n Q
-Among n (split w s i j P Q) = Among n P × Among n Q
-Among n (sequence w b P Q) = Among n P × Among n Q
-Among n Ω = Unit {0}
-Among n ⊥′ = Unit {0}
 
 no-leaf : (l : Leaf) (k : ℕ) → leaf-offers l (visible k) ≡ true → ⊥
 unfolding leaf-offers
@@ -110,10 +101,6 @@ module _ (ts : List Term) (n : ℕ) (P : Process) where
       or-right (offers-τ P) (offers-✓ P || offers-some n P)
       (or-right (offers-✓ P) (offers-some n P) (some-offered n k P (among-offers n k P t h) h))
 
-  -- from no place has any address a derivation
-  abbrev pub Never : Type 0
-  Never = (a : Address) (s : At) (r : Outcome) → Tracks ts a P s r → ⊥
-
   pub ended-exactly : (status n P ≡ ended) ↔ (P ≡ Ω)
   unfolding status at-Ω
   ended-exactly = (λ h. go (at-Ω P) refl (some-event n P) h, λ e. rw e)
@@ -130,7 +117,7 @@ module _ (ts : List Term) (n : ℕ) (P : Process) where
       go true e = absurd (h (is-Ω P e))
       go false e = refl
 
-  never-offers : Never → some-event n P ≡ false
+  never-offers : Never ts P → some-event n P ≡ false
   never-offers h = go (some-event n P) refl
     where
       go : (b : Bool) → some-event n P ≡ b → b ≡ false
@@ -160,7 +147,7 @@ module _ (ts : List Term) (n : ℕ) (P : Process) where
   true-false : (b : Bool) → b ≡ true → b ≡ false → ⊥
   true-false b e f = let z : _≡_ {A = ℕ} 0 1 = cc in omega arith
 
-  pub stuck-exactly : Among n P → (status n P ≡ stuck) ↔ ((P ≡ Ω → ⊥) × Never)
+  pub stuck-exactly : Among n P → (status n P ≡ stuck) ↔ ((P ≡ Ω → ⊥) × Never ts P)
   unfolding status
   stuck-exactly t = (
     λ h.
@@ -171,11 +158,7 @@ module _ (ts : List Term) (n : ℕ) (P : Process) where
     λ h. rw (not-ended (h .0), never-offers (h .1)),
   )
 
-  -- from every place some address has a derivation
-  abbrev pub Derivable : Type 0
-  Derivable = (s : At) → (a : Address) × (r : Outcome) × Tracks ts a P s r
-
-  pub live-exactly : Among n P → (status n P ≡ live) ↔ ((P ≡ Ω → ⊥) × Derivable)
+  pub live-exactly : Among n P → (status n P ≡ live) ↔ ((P ≡ Ω → ⊥) × Derivable ts P)
   unfolding status
   live-exactly t = (
     λ h. let b = live-is h in (λ e. true-false (at-Ω P) (rw e Ω-ended) (b .0), offer-derived (b .1)),
@@ -187,7 +170,7 @@ module _ (ts : List Term) (n : ℕ) (P : Process) where
 -- the status of a state, by what its addresses are answered
 module _ (ts : List Term) (n : ℕ) (s : State) (t : Among n (s .process)) where
   -- every address is answered 7 exactly where there is no derivation from any place
-  pub all-seven : Never ts n (s .process) ↔ ((a : Address) → answer ts s a ≡ refused 7)
+  pub all-seven : Never ts (s .process) ↔ ((a : Address) → answer ts s a ≡ refused 7)
   all-seven = (
     λ h a. seven-exactly ts s a .1 (λ r d. h a (stands s) r d),
     λ h a at r d.

@@ -1,21 +1,17 @@
--- What a caller of `next_step` may rely on: by which address a frame asks for a step, that every address can
--- be asked for, and that the promise leaves one outcome. The tests of `asked` are taken apart one way and met
--- the other, and an outcome is what the promise's two equations say. Assumes nothing.
+-- What a caller of `next_step` may rely on: by which address a frame asks for a step, and that every address can
+-- be asked for. The tests of `asked` are taken apart one way and met the other. Assumes nothing.
 use Prim.Native.Nat.{ℕ, zero, suc, _≤_, _<_, _+_, _*_, _/_, _%_}
-use mathlib.Core.Path.{_≡_, refl, sym, ap, _∙_}
+use mathlib.Core.Path.{_≡_, refl, sym, ap}
 use mathlib.Core.Bool.{true, _&&_}
 use mathlib.Core.List.{List, [], _∷_}
 use mathlib.Core.Option.{some}
 use native.Mathlib.Omega.{arith}
 use lib.ListN.{length, drop, getD}
 use lib.Dec.{leb}
-use lib.Seq.{sets}
 use borrow.Author.Tests.{le-leb, leb-true, eq-eqb}
-use Rattle.lines.specs.Line.{lines, number-from}
+use Rattle.lines.specs.Line.{number-from}
 use Rattle.lines.proofs.Digits.{both}
-use Rattle.scripts.specs.declared.ScriptStep.{ScriptStep}
 use Rattle.scripts.specs.Script.{most, digits, well-formed, all-digits, in-range, asked, address}
-use Rattle.scripts.specs.Script.{answer, left}
 use Rattle.scripts.specs.code.Answers.{refusal}
 use Rattle.scripts.proofs.Steps.{is-step}
 
@@ -75,10 +71,3 @@ pub asked-written : (ds : List ℕ) → IsAddress ds
     → asked (some (0x20 ∷ length ds / 256 ∷ length ds % 256 ∷ ds)) ≡ address ds
 unfolding asked written
 asked-written ds a = simp (written-well ds, written-fits ds a)
-
--- two outcomes that the promise of `next_step` allows, of one text, cursor and array, are equal
-pub next-step-settled : (s : List ℕ) (at : ℕ) (d : List ℕ) (r₁ r₂ : ScriptStep) (d₁ d₂ : List ℕ)
-    → (r₁ ≡ answer at (lines (drop at s))) × (d₁ ≡ sets d 0 (left (lines (drop at s))))
-    → (r₂ ≡ answer at (lines (drop at s))) × (d₂ ≡ sets d 0 (left (lines (drop at s))))
-    → (r₁ ≡ r₂) × (d₁ ≡ d₂)
-next-step-settled s at d r₁ r₂ d₁ d₂ p q = (p .0 ∙ sym (q .0), p .1 ∙ sym (q .1))

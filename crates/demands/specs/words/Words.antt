@@ -8,11 +8,13 @@ use Rattle.tables.specs.Table.{Sofar}
 use Rattle.tables.specs.words.Columns.{kinds, payloads, afters, roots}
 use Rattle.terms.specs.Term.{definitions-of}
 use Rattle.columns.specs.words.Columns.{columns}
+use Rattle.rules.specs.declared.Event.{Event}
 use Rattle.rules.specs.Run.{State}
 use Rattle.plans.specs.code.Laid.{laid-out}
 use Rattle.plans.specs.words.Layout.{layout}
 use Rattle.runs.specs.words.Held.{Words, Holds, Keeps}
 use Rattle.runs.specs.declared.Answer.{Answer}
+use Rattle.runs.specs.declared.Answer.the-variants.{Accepted}
 use Rattle.graphs.specs.Graph.{Graph}
 use Rattle.graphs.specs.Saved.{graph-text}
 use Rattle.links.specs.declared.GraphCounts.{GraphCounts}
@@ -34,6 +36,10 @@ HoldsRun p x t v s = Holds (layout t) p x (definitions-of t) (v .nodes) (v .trac
 abbrev pub Steps : List ℕ → List ℕ → List ℕ → ℕ → Words → Answer → Words → Type 0
 Steps p x ds count v r v′ =
     Keeps p x count ds v r v′
+
+-- an answer that shows an event
+abbrev pub shows : Event → Answer
+shows e = Accepted (record { event = e })
 
 -- an outcome that a save may have
 abbrev pub SavesWords : List ℕ → List ℕ → List ℕ → List ℕ → Words → List ℕ → Saved → List ℕ → Type 0

@@ -1,0 +1,109 @@
+-- Every door's promise settles its outcome. The promise is the one that the door's contract states (`Learnt`, what a caller is
+-- told), and no copy of it. Where it is an equation of the outcome with what was lent, that it settles is immediate, by one law;
+-- a set, and what is offered, are told by their members, which determine them. Assumes nothing.
+use Prim.Native.Nat.{ℕ}
+use mathlib.Core.Path.{_≡_, refl, sym, ap₂, _∙_}
+use mathlib.Core.Bool.{Bool, true, false, false≢true}
+use denote.Ref.{now}
+use Rattle.sets.specs.Told.{Emptiness}
+use Rattle.sets.proofs.Told.{told-once}
+use Rattle.offering.proofs.Once.{offers-once}
+use Rattle.runs.specs.code.Doors.{with-answer}
+use Rattle.playing.specs.code.Playing.{with-played}
+use Rattle.outcomes.specs.Settles.{Settles, _beside_}
+use Rattle.lines.proofs.next_line.Reads as lines-next-line
+use Rattle.lines.proofs.characters.Reads as lines-characters
+use Rattle.lines.proofs.refusal_of.Reads as lines-refusal-of
+use Rattle.numbers.proofs.byte.Reads as numbers-byte
+use Rattle.numbers.proofs.number.Reads as numbers-number
+use Rattle.scripts.proofs.next_step.Reads as scripts-next-step
+use Rattle.refusals.proofs.first_line.Reads as refusals-first-line
+use Rattle.refusals.proofs.table_line.Reads as refusals-table-line
+use Rattle.kinds.proofs.subterms.Reads as kinds-subterms
+use Rattle.kinds.proofs.payload_bytes.Reads as kinds-payload-bytes
+use Rattle.places.proofs.place.Reads as places-place
+use Rattle.sets.proofs.has.Reads as sets-has
+use Rattle.sets.proofs.only.Reads as sets-only
+use Rattle.sets.proofs.either.Reads as sets-either
+use Rattle.sets.proofs.shared.Reads as sets-shared
+use Rattle.sets.proofs.empty.Reads as sets-empty
+use Rattle.plans.proofs.lay_out.Reads as plans-lay-out
+use Rattle.offers.proofs.offers.Reads as offers-offers
+use Rattle.status.proofs.status_at.Reads as status-status-at
+use Rattle.runs.proofs.start.Reads as runs-start
+use Rattle.runs.proofs.step.Reads as runs-step
+use Rattle.playing.proofs.play.Reads as playing-play
+use Rattle.links.proofs.link.Reads as links-link
+use Rattle.inputs.proofs.table_end.Reads as inputs-table-end
+use Rattle.listing.proofs.list.Reads as listing-list
+use Rattle.writing.proofs.refusal_of.Reads as writing-refusal-of
+
+-- an outcome that the promise equates with something that was lent
+module _ {K : Type 0} {Lent Answer Left : K → Type 0} {Outcome : Type 0}
+    {promise : (κ : K) → Lent κ → Answer κ → Left κ → Type 0} {outcome : (κ : K) → Answer κ → Left κ → Outcome}
+    {is : (κ : K) → Lent κ → Outcome} where
+  by-equation : ((κ : K) (lent : Lent κ) (x : Answer κ) (s : Left κ) → promise κ lent x s → outcome κ x s ≡ is κ lent)
+      → Settles promise outcome
+  by-equation told κ lent x y s t p q = told κ lent x s p ∙ sym (told κ lent y t q)
+
+-- an outcome of two parts
+both : {A B : Type 0} {a c : A} {b d : B} → a ≡ c → b ≡ d → _≡_ {A = A × B} (a, b) (c, d)
+both e f = ap₂ (λ x y. (x, y)) e f
+
+-- a set is empty or it is not
+one-emptiness : (s : ℕ) (x y : Bool) → Emptiness s x → Emptiness s y → x ≡ y
+one-emptiness s true true p q = refl
+one-emptiness s false false p q = refl
+one-emptiness s true false p q =
+    let (k, stands) = q .some-event refl in absurd (false≢true (sym (p .no-event refl k) ∙ stands))
+one-emptiness s false true p q =
+    let (k, stands) = p .some-event refl in absurd (false≢true (sym (q .no-event refl k) ∙ stands))
+
+pub lines-next-line-settled : Settles lines-next-line.Learnt (λ κ x s. x)
+lines-next-line-settled = by-equation (λ κ lent x s p. p)
+
+pub lines-characters-settled : Settles lines-characters.Learnt (λ κ x s. now x)
+lines-characters-settled = by-equation (λ κ lent x s p. p)
+
+pub lines-refusal-of-settled : Settles lines-refusal-of.Learnt (λ κ x s. x)
+lines-refusal-of-settled = by-equation (λ κ lent x s p. p)
+
+pub numbers-byte-settled : Settles numbers-byte.Learnt (λ κ x s. x)
+numbers-byte-settled = by-equation (λ κ lent x s p. p)
+
+pub numbers-number-settled : Settles numbers-number.Learnt (λ κ x s. x)
+numbers-number-settled = by-equation (λ κ lent x s p. p)
+
+pub scripts-next-step-settled : Settles scripts-next-step.Learnt
+    (λ κ x s. let (text, (at, (digits, _))) = s in x beside now digits)
+scripts-next-step-settled = by-equation (λ κ lent x s p. both (p .0) (p .1))
+
+pub sets-only-settled : Settles sets-only.Learnt (λ κ x s. x)
+sets-only-settled κ lent x y s t p q = told-once _ x y p q
+
+pub sets-empty-settled : Settles sets-empty.Learnt (λ κ x s. x)
+sets-empty-settled κ lent x y s t p q = one-emptiness _ x y p q
+
+pub offers-offers-settled : Settles offers-offers.Learnt (λ κ x s. x)
+offers-offers-settled κ lent x y s t p q = offers-once x y (p .0 ∙ sym (q .0))
+
+pub plans-lay-out-settled : Settles plans-lay-out.Learnt
+    (λ κ x s. let (terms, (kinds, (payloads, (after, (roots, (plan, _)))))) = s in now plan)
+plans-lay-out-settled = by-equation (λ κ lent x s p. p)
+
+pub runs-start-settled : Settles runs-start.Learnt
+    (λ κ x s. let (nodes, (track, (counters, _))) = s in now nodes beside (now track beside now counters))
+runs-start-settled = by-equation (λ κ lent x s p. both (p .0) (both (p .1 .0) (p .1 .1 .0)))
+
+pub runs-step-settled : Settles runs-step.Learnt
+    (λ κ x s. let (count, (digits, (plan, (sets, (nodes, (track, (counters, _))))))) = s in
+    with-answer x (now nodes) (now track) (now counters))
+runs-step-settled = by-equation (λ κ lent x s p. p .0)
+
+pub playing-play-settled : Settles playing-play.Learnt
+    (λ κ x s. let (text, (at, (digits, (plan, (sets, (nodes, (track, (counters, _)))))))) = s in
+    with-played x (now nodes) (now track) (now counters) beside now digits)
+playing-play-settled = by-equation (λ κ lent x s p. both (p .0) (p .1 .0))
+
+pub listing-list-settled : Settles listing-list.Learnt (λ κ x s. let (input, (out, _)) = s in x beside now out)
+listing-list-settled = by-equation (λ κ lent x s p. both (p .0) (p .1))

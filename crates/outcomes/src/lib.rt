@@ -1,0 +1,1 @@
+// One outcome for each call of a door: laws alone.
