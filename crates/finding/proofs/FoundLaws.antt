@@ -1,12 +1,11 @@
 -- The mark at a place is that of the literal that the table has there, and no literal's mark is 0. So a node has a mark exactly
 -- where its line has its number and a place that is its. Assumes nothing.
-use Prim.Native.Nat.{ℕ, zero, suc, _+_, _<_}
+use Prim.Native.Nat.{ℕ, suc, _+_, _<_}
 use mathlib.Core.Path.{_≡_, refl, ap, ap₂, _∙_}
 use mathlib.Core.Bool.{Bool, true, false, _&&_, not}
 use mathlib.Core.List.{List, [], _∷_}
 use mathlib.Core.Option.{Option, none, some}
-use native.Mathlib.Omega.{arith}
-use lib.ListN.{length, getElem?}
+use lib.ListN.{length}
 use lib.Dec.{eqb}
 use borrow.Author.Tests.{eqb-true, ne-eqb}
 use Rattle.lines.specs.Line.{choose}
@@ -15,6 +14,7 @@ use Rattle.frames.specs.TableFrame.{definition-room}
 use Rattle.tables.specs.Table.{Sofar, judged}
 use Rattle.tables.specs.words.Columns.{kinds, afters, roots}
 use Rattle.terms.specs.Term.{Term, definitions-of}
+use Rattle.terms.proofs.Trees.{listed}
 use Rattle.columns.specs.words.Columns.{look}
 use Rattle.places.specs.Place.{Place, left-path, Literal, own, event}
 use Rattle.places.proofs.Laws.{checked-roots}
@@ -32,12 +32,6 @@ pub marks-length : (ks xs rs : List ℕ) (k : ℕ) (ls : List Label) → length 
 unfolding marks-of
 marks-length ks xs rs k [] = refl
 marks-length ks xs rs k (l ∷ ls) = ap suc (marks-length ks xs rs (suc k) ls)
-
--- a definition below the length of a list is one of it
-pub listed : (ts : List Term) (k : ℕ) → k < length ts → (T : Term) × (getElem? ts k ≡ some T)
-listed [] k h = absurd (omega arith)
-listed (t ∷ ts) zero h = (t, refl)
-listed (t ∷ ts) (suc k) h = listed ts k (omega arith)
 
 -- two tests of two things each, the other way about
 crossed : (a b c d : Bool) → (a && b) && (c && d) ≡ (a && c) && (b && d)

@@ -12,12 +12,11 @@ use native.Mathlib.Numerals.{add-one}
 use lib.Dec.{eqb}
 use borrow.Author.Tests.{lt-ltb}
 use Rattle.lines.specs.Line.{choose}
-use Rattle.kinds.specs.Kind as Kind
 use Rattle.kinds.specs.Kind.{subterms}
 use Rattle.frames.specs.TableFrame.{term-room}
 use Rattle.terms.specs.Term.{Term, leaf, prefix, binary, size}
 use Rattle.terms.specs.words.Held.{HoldsTerm}
-use Rattle.terms.proofs.Trees.{leaf-subterms, operator-subterms}
+use Rattle.terms.proofs.Trees.{leaf-subterms, prefix-subterms, operator-subterms}
 use Rattle.terms.proofs.Held.{size-some, holds-behind}
 use Rattle.columns.specs.words.Columns.{Columns, look}
 use Rattle.columns.proofs.Laws.{look-in}
@@ -73,10 +72,6 @@ module _ (ks xs : List ℕ) (i x : ℕ) (w : List ℕ) where
 find-here : (ks xs : List ℕ) (i : ℕ) → i < term-room → find ks xs i [] ≡ mark-of-literal i (some (own 0))
 unfolding find mark-of-literal
 find-here ks xs i h = rw (lt-ltb i term-room h) (ap own-mark (omega arith))
-
-prefix-subterms : subterms Kind.prefix ≡ 1
-unfolding subterms
-prefix-subterms = refl
 
 module _ (ks ps xs : List ℕ) where
   -- where columns hold a term, the mark at a path from it on is that of its literal there

@@ -4,7 +4,7 @@
 use Prim.Native.Nat.{ℕ, zero, suc, _+_, _*_, _≤_, _<_}
 use mathlib.Core.Path.{_≡_, refl, sym, ap, ap₂, _∙_}
 use mathlib.Core.Bool.{Bool, true, false, _&&_}
-use mathlib.Core.List.{List, [], _∷_}
+use mathlib.Core.List.{List}
 use mathlib.Core.Logic.{⊎-elim}
 use mathlib.Core.Option.{Option, none, some}
 use native.Mathlib.Omega.{arith}
@@ -22,7 +22,7 @@ use Rattle.tables.specs.words.Columns.{kinds, payloads, afters, roots}
 use Rattle.tables.proofs.Whole.{zeros-column}
 use Rattle.terms.specs.Term.{Term, leaf, prefix, binary, definitions-of}
 use Rattle.terms.specs.words.Held.{HoldsTerm}
-use Rattle.terms.proofs.Trees.{checked-trees}
+use Rattle.terms.proofs.Trees.{listed, listed-below, checked-trees}
 use Rattle.terms.proofs.Held.{column-at, checked-holds}
 use Rattle.places.specs.Place.{Place, left-path, term-at, IsPrefix, literal-at}
 use Rattle.columns.specs.words.Columns.{look}
@@ -49,7 +49,7 @@ use Rattle.links.specs.words.Columns.{at}
 use Rattle.walks.specs.code.Walked.{laid}
 use Rattle.walks.proofs.Telling.{mark-told, Telling}
 use Rattle.finding.specs.code.Found.{mark-of, marks-of}
-use Rattle.finding.proofs.FoundLaws.{marks-length, listed, DefinitionsBelow}
+use Rattle.finding.proofs.FoundLaws.{marks-length, DefinitionsBelow}
 use Rattle.shape_rules.specs.code.Tests.{one-event}
 
 -- the event that a mark tells, none where it is no event's
@@ -119,12 +119,6 @@ lookup-below {d} (each-first {x = l} {xs = ls} h hs) n w e =
         → (lookup n ls ≡ some w → w .definition < d) → w .definition < d
     go true e later = let is : l .place ≡ w = cc in rw is at h
     go false e later = later e
-
--- a definition of a list is below its length
-listed-below : (ts : List Term) (k : ℕ) (t : Term) → getElem? ts k ≡ some t → k < length ts
-listed-below [] k t e = let z : _≡_ {A = ℕ} 0 1 = cc in absurd (omega arith)
-listed-below (u ∷ ts) zero t e = omega arith
-listed-below (u ∷ ts) (suc k) t e = omega (arith, listed-below ts k t e)
 
 -- two marks are of one event where the events that they tell are
 one-event-told : (ts : List Term) (ps : List ℕ) (m n : ℕ)
