@@ -1,4 +1,4 @@
--- Laws of this crate: `Followed`, of a path followed digit by digit; `FoundLaws`, that the mark at a place is its
--- literal's.
-pub mod Followed
+-- Laws of this crate: `NodeLine`, of a node's mark by the bytes of its line; `FoundLaws`, that a node has a mark exactly where its line
+-- has its number and a place that is its.
+pub mod NodeLine
 pub mod FoundLaws

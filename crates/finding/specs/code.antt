@@ -1,2 +1,2 @@
--- Mirrors of code: `Found`, the mark at a place, whatever the columns hold.
+-- Mirrors of code: `Found`, the marks of nodes, whatever the columns hold.
 pub mod Found

@@ -16,6 +16,7 @@ use Rattle.lines.specs.Line.{choose, Bytes, no-bytes, byte-first}
 use Rattle.frames.specs.TableFrame.{path-room}
 use Rattle.terms.specs.Term.{Term, external, parallel, size, Shallow}
 use Rattle.terms.specs.Term as Term
+use Rattle.terms.proofs.Trees.{listed-below}
 use Rattle.terms.proofs.Held.{size-some}
 use Rattle.places.specs.Place.{Place, path-in, term-at, IsPrefix, event-path, Literal, own, event, literal-at}
 use Rattle.places.proofs.Sides.{Side, only, first, second, by-number, side-at, side-inside, path-root}
@@ -199,12 +200,6 @@ event-bytes : {p : List ℕ} → Bytes p → Bytes (event-path p)
 event-bytes no-bytes = byte-first {b = 1} (omega arith) no-bytes
 event-bytes (byte-first l bs) = byte-first l (event-bytes bs)
 
--- what a list has is below its length
-listed : (ts : List Term) (k : ℕ) (t : Term) → getElem? ts k ≡ some t → k < length ts
-listed [] k t e = none-some e
-listed (u ∷ ts) zero t e = omega arith
-listed (u ∷ ts) (suc k) t e = omega (arith, listed ts k t e)
-
 -- a place in range of a table of d definitions, and its path's digits bytes
 abbrev pub Ranged : ℕ → Place → Type 0
 Ranged d w = (in-range d w ≡ true) × Bytes (w .path)
@@ -226,12 +221,12 @@ literal-ranged ts shallow w h = go (root-of ts w) refl h
     by-literal T r (some (own n)) e h =
         let (i, p) = own-only T (w .path) n e in
         let short = path-short T 0 n (shallow _ T r) i in
-        ranged (length ts) w (omega (arith, short, ap length p)) (listed ts _ T r) (rw p (path-bytes T n))
+        ranged (length ts) w (omega (arith, short, ap length p)) (listed-below ts _ T r) (rw p (path-bytes T n))
     by-literal T r (some (event n)) e h =
         let (i, p) = event-only T (w .path) n e in
         let short = event-short T 0 n (shallow _ T r) i in
         let bytes = event-bytes (path-bytes T n) in
-        ranged (length ts) w (omega (arith, short, ap length p)) (listed ts _ T r) (rw p bytes)
+        ranged (length ts) w (omega (arith, short, ap length p)) (listed-below ts _ T r) (rw p bytes)
 
     go : (o : Option Term) → root-of ts w ≡ o → there ts (in-definition o (w .path)) ≡ true
         → Ranged (length ts) w

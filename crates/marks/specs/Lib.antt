@@ -1,2 +1,3 @@
--- The marks of literals. Below: `words`, layouts of words and invariants.
+-- The marks of literals. Below: `words`, layouts of words and invariants; `code`, mirrors of code.
 pub mod words
+pub mod code

@@ -1,6 +1,10 @@
 // The marks of literals, by which a run's words and a graph's columns tell their labels: 0 for none, 1 for the left-hand side of
-// definition 00, 2 + 2t for the own literal of term t, and 3 + 2t for the event of prefix t. Here they are made, and read.
+// definition 00, 2 + 2t for the own literal of term t, and 3 + 2t for the event of prefix t. Here they are made, read, and found by
+// going down a path.
+mod path;
+
 use frames::TERM_ROOM;
+pub use path::find;
 use places::Literal;
 ghost use mathlib.Core.Path.{_≡_};
 ghost use Rattle.marks.specs.words.Mark as of;

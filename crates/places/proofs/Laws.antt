@@ -21,7 +21,7 @@ use Rattle.tables.specs.Table.{Sofar, judged}
 use Rattle.tables.specs.words.Columns.{kinds, payloads, owners, afters, roots}
 use Rattle.terms.specs.Term.{Term, leaf, prefix, binary, size, Shallow, definitions-of}
 use Rattle.terms.specs.words.Held.{HoldsTerm}
-use Rattle.terms.proofs.Trees.{leaf-subterms, operator-subterms, each-at, checked-trees}
+use Rattle.terms.proofs.Trees.{leaf-subterms, prefix-subterms, operator-subterms, each-at, listed-below, checked-trees}
 use Rattle.terms.proofs.Held.{size-some, holds-behind, checked-holds}
 use Rattle.places.specs.Place.{path-in, term-at, IsPrefix, PrefixAt, event-path, left-path, Literal}
 use Rattle.places.specs.Place.{own, event, shifted, event-end, literal-at}
@@ -176,10 +176,6 @@ event-short t d n s p =
     let r = event-room _ (term-at t n) p (shallow-at t n (prefix-inside t n p) d s) in
     omega (arith, length-append (path-in t n) (1 ∷ []))
 
-prefix-subterms : subterms Kind.prefix ≡ 1
-unfolding subterms
-prefix-subterms = refl
-
 -- columns that hold a term
 module _ (ks ps xs : List ℕ) where
   -- hold its sides
@@ -295,18 +291,13 @@ pub record Defined (c : Columns) (k : ℕ) (t : Term) : Type 0 where
 abbrev pub Roots : Columns → List Term → Type 0
 Roots c ts = (k : ℕ) (t : Term) → getElem? ts k ≡ some t → Defined c k t
 
-listed : (ts : List Term) (k : ℕ) (t : Term) → getElem? ts k ≡ some t → k < length ts
-listed [] k t e = let z : _≡_ {A = ℕ} 0 1 = cc in absurd (omega arith)
-listed (u ∷ ts) zero t e = omega arith
-listed (u ∷ ts) (suc k) t e = omega (arith, listed ts k t e)
-
 -- those of a checked table do
 pub checked-roots : (text : List ℕ) (s : Sofar) → judged text ≡ accepted s
     → Roots (columns (kinds s) (owners s) (afters s) (roots s)) (definitions-of s)
 checked-roots text s q k t e =
     let table = checked-trees text s q in
     let stands = checked-holds text s q k t e in
-    let few : k < 64 = omega (arith, listed (definitions-of s) k t e) in
+    let few : k < 64 = omega (arith, listed-below (definitions-of s) k t e) in
     let r : getD (roots s) k 0 ≡ look 64 (roots s) k = look-in 64 (roots s) k few in
     let fits : look 64 (roots s) k + size t ≤ 1024 = omega arith in
     record {

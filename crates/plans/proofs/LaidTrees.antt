@@ -15,7 +15,7 @@ use Rattle.terms.specs.Term.{Leaf, call, SKIP, STOP, leaf-kind, leaf-payload, O
 use Rattle.terms.specs.Term.{sequence, parallel, operator-kind, Term, leaf, prefix, binary, size, starts}
 use Rattle.terms.specs.Term.{Within}
 use Rattle.terms.specs.words.Held.{HoldsTerm}
-use Rattle.terms.proofs.Trees.{leaf-subterms, operator-subterms}
+use Rattle.terms.proofs.Trees.{leaf-subterms, prefix-subterms, operator-subterms}
 use Rattle.terms.proofs.Held.{size-some, holds-behind, Forest}
 use Rattle.columns.specs.words.Columns.{look}
 use Rattle.columns.proofs.Laws.{look-in}
@@ -69,10 +69,6 @@ through-around (parallel x) o = refl
 prefix-inward : (i o : ℕ) → inward Kind.prefix i o ≡ o
 unfolding inward through
 prefix-inward i o = refl
-
-prefix-subterms : subterms Kind.prefix ≡ 1
-unfolding subterms
-prefix-subterms = refl
 
 module _ (ks ps xs rs : List ℕ) where
   -- the plan after n turns

@@ -4,7 +4,8 @@
 use Prim.Native.Nat.{ℕ, zero, suc, _+_, _*_, _≤_, _<_}
 use mathlib.Core.Path.{_≡_, refl, sym, ap, ap₂, _∙_}
 use mathlib.Core.Bool.{Bool, true, false, _&&_}
-use mathlib.Core.List.{List, [], _∷_}
+use mathlib.Core.List.{List}
+use mathlib.Core.Logic.{⊎-elim}
 use mathlib.Core.Option.{Option, none, some}
 use native.Mathlib.Omega.{arith}
 use native.Mathlib.Nat.{add-zero, zero-add}
@@ -19,18 +20,19 @@ use Rattle.frames.specs.TableFrame.{term-room, definition-room}
 use Rattle.tables.specs.Table.{Sofar, judged}
 use Rattle.tables.specs.words.Columns.{kinds, payloads, afters, roots}
 use Rattle.tables.proofs.Whole.{zeros-column}
-use Rattle.terms.specs.Term.{Term, leaf, prefix, binary, size, definitions-of}
+use Rattle.terms.specs.Term.{Term, leaf, prefix, binary, definitions-of}
 use Rattle.terms.specs.words.Held.{HoldsTerm}
-use Rattle.terms.proofs.Trees.{checked-trees}
+use Rattle.terms.proofs.Trees.{listed, listed-below, checked-trees}
 use Rattle.terms.proofs.Held.{column-at, checked-holds}
-use Rattle.places.specs.Place.{Place, left-path, term-at, IsPrefix, Literal, own, event, literal-at}
+use Rattle.places.specs.Place.{Place, left-path, term-at, IsPrefix, literal-at}
 use Rattle.columns.specs.words.Columns.{look}
 use Rattle.columns.proofs.Laws.{look-in, look-out}
 use Rattle.places.proofs.Sides.{prefix-inside}
-use Rattle.places.proofs.Laws.{own-only, event-only, left-apart, holds-at, checked-roots}
+use Rattle.places.proofs.Laws.{left-apart, holds-at, checked-roots}
 use Rattle.marks.specs.words.Mark.{term-of, is-event}
-use Rattle.marks.proofs.Laws.{low-read, low-tested, own-is, event-is, own-read, event-read, own-tested}
-use Rattle.marks.proofs.Laws.{event-tested, term-is}
+use Rattle.marks.specs.code.Followed.{find}
+use Rattle.marks.proofs.Laws.{low-read, low-tested, own-read, event-read, own-tested, event-tested, term-is}
+use Rattle.marks.proofs.Literals.{Finds, finds-own, finds-event, found}
 use Rattle.rules.specs.Track.{Label, lookup}
 use Rattle.plans.specs.words.Plan.{Layout}
 use Rattle.plans.specs.words.Layout.{layout}
@@ -46,8 +48,8 @@ use Rattle.graphs.proofs.References.{same-true}
 use Rattle.links.specs.words.Columns.{at}
 use Rattle.walks.specs.code.Walked.{laid}
 use Rattle.walks.proofs.Telling.{mark-told, Telling}
-use Rattle.finding.specs.code.Found.{find, mark-of, marks-of}
-use Rattle.finding.proofs.FoundLaws.{mark-of-literal, marks-length, listed, find-literal, DefinitionsBelow}
+use Rattle.finding.specs.code.Found.{mark-of, marks-of}
+use Rattle.finding.proofs.FoundLaws.{marks-length, DefinitionsBelow}
 use Rattle.shape_rules.specs.code.Tests.{one-event}
 
 -- the event that a mark tells, none where it is no event's
@@ -62,9 +64,8 @@ left-side = record { definition = 0; path = left-path }
 data Told (s : Sofar) (o : Option Place) (m : ℕ) : Type 0 where
   bare : o ≡ none → m ≡ 0 → Told s o m
   start : o ≡ some left-side → m ≡ 1 → Told s o m
-  literal : (w : Place) (T : Term) (l : Literal) → o ≡ some w → getElem? (definitions-of s) (w .definition) ≡ some T
-      → literal-at T (w .path) ≡ some l
-      → m ≡ mark-of-literal (look definition-room (roots s) (w .definition)) (some l) → Told s o m
+  literal : (w : Place) (T : Term) → o ≡ some w → getElem? (definitions-of s) (w .definition) ≡ some T
+      → Finds T (look definition-room (roots s) (w .definition)) (w .path) m → Told s o m
 
 -- the places that a term's two marks tell
 module _ (l : Layout) (t : ℕ) {m : ℕ} where
@@ -119,12 +120,6 @@ lookup-below {d} (each-first {x = l} {xs = ls} h hs) n w e =
     go true e later = let is : l .place ≡ w = cc in rw is at h
     go false e later = later e
 
--- a definition of a list is below its length
-listed-below : (ts : List Term) (k : ℕ) (t : Term) → getElem? ts k ≡ some t → k < length ts
-listed-below [] k t e = let z : _≡_ {A = ℕ} 0 1 = cc in absurd (omega arith)
-listed-below (u ∷ ts) zero t e = omega arith
-listed-below (u ∷ ts) (suc k) t e = omega (arith, listed-below ts k t e)
-
 -- two marks are of one event where the events that they tell are
 one-event-told : (ts : List Term) (ps : List ℕ) (m n : ℕ)
     → one-event ps m n ≡ Shape.one-event ts (event-told ps m) (event-told ps n)
@@ -146,30 +141,21 @@ module _ (text : List ℕ) (s : Sofar) (q : judged text ≡ accepted s) where
   abbrev root : ℕ → ℕ
   root k = look definition-room (roots s) k
 
-  -- the number of a definition's term is a term's
-  inside : (k : ℕ) (T : Term) → getElem? ts k ≡ some T → (n : ℕ) → n < size T → root k + n < term-room
-  inside k T e n h = omega (arith, checked-roots text s q k T e .fits)
-
   -- a mark tells its place
   told-place : (o : Option Place) (m : ℕ) → Told s o m → o ≡ mark-told (layout s) m
-  unfolding mark-told literal-place mark-of-literal
+  unfolding mark-told literal-place
   told-place o m (bare a b) = rw (a, b)
   told-place o m (start a b) = rw (a, ne-eqb m 0 (λ e. omega arith), low-read m (omega arith))
-  told-place o m (literal w T (own n) a e x b) =
-      let (h, p) = own-only T (w .path) n x in
+  told-place o m (literal w T a e (finds-own n x h p b)) =
       let is : w ≡ layout s .place (root (w .definition) + n) =
       ap (λ (v : List ℕ). record { definition = w .definition; path = v }) p
       ∙ sym (definition-sited text s q (w .definition) T e n h) in
-      let i = root (w .definition) + n in
-      a ∙ ap some is ∙ sym (own-place (layout s) i (b ∙ own-is i (inside (w .definition) T e n h)))
-  told-place o m (literal w T (event n) a e x b) =
-      let (h, p) = event-only T (w .path) n x in
+      a ∙ ap some is ∙ sym (own-place (layout s) (root (w .definition) + n) b)
+  told-place o m (literal w T a e (finds-event n x h p b)) =
       let is : w ≡ layout s .event (root (w .definition) + n) =
       ap (λ (v : List ℕ). record { definition = w .definition; path = v }) p
       ∙ sym (event-of-definition text s q (w .definition) T e n h) in
-      let i = root (w .definition) + n in
-      let mark = b ∙ event-is i (inside (w .definition) T e n (prefix-inside T n h)) in
-      a ∙ ap some is ∙ sym (event-place (layout s) i mark)
+      a ∙ ap some is ∙ sym (event-place (layout s) (root (w .definition) + n) b)
 
   -- no event stands at the left-hand side
   left-no-event : (o : Option Term) → event-of-literal ts o (in-definition o left-path) ≡ none
@@ -179,38 +165,36 @@ module _ (text : List ℕ) (s : Sofar) (q : judged text ≡ accepted s) where
 
   -- and its event
   told-event : (o : Option Place) (m : ℕ) → Told s o m → event-of ts o ≡ event-told (payloads s) m
-  unfolding event-of event-of-literal in-definition in-term mark-of-literal event-told
+  unfolding event-of event-of-literal in-definition in-term event-told
   told-event o m (bare a b) = rw (a, low-tested m (omega arith) .1)
   told-event o m (start a b) = rw (a, low-tested m (omega arith) .1) (left-no-event (getElem? ts 0))
-  told-event o m (literal w T (own n) a e x b) =
+  told-event o m (literal w T a e (finds-own n x h p b)) =
+      rw (a, e, x) (sym (own-event (payloads s) (root (w .definition) + n) b))
+  told-event o m (literal w T a e (finds-event n x h p b)) =
       let i = root (w .definition) + n in
-      let (h, p) = own-only T (w .path) n x in
-      rw (a, e, x) (sym (own-event (payloads s) i (b ∙ own-is i (inside (w .definition) T e n h))))
-  told-event o m (literal w T (event n) a e x b) =
-      let i = root (w .definition) + n in
-      let (h, p) = event-only T (w .path) n x in
       let stands = checked-holds text s q (w .definition) T e in
       let few = listed-below ts (w .definition) T e in
       let table = checked-trees text s q in
       let at-root = look-in definition-room (roots s) (w .definition) (omega arith) in
-      let below = inside (w .definition) T e n (prefix-inside T n h) in
+      let below : i < term-room = omega (arith, checked-roots text s q (w .definition) T e .fits, prefix-inside T n h) in
       let held = rw at-root at (stands .holds) in
       let held-there = holds-at (kinds s) (payloads s) (afters s) T n (prefix-inside T n h) _ held in
       rw (a, e, x)
       (payload-event (kinds s) (payloads s) (afters s) ts (term-at T n) i held-there h
-      ∙ ap some (look-in term-room (payloads s) i below) ∙ sym (event-event (payloads s) i (b ∙ event-is i below)))
+      ∙ ap some (look-in term-room (payloads s) i below) ∙ sym (event-event (payloads s) i b))
 
   -- the mark at a place is that of the literal there
   abbrev found-at : Place → ℕ
   found-at w = find (kinds s) (afters s) (root (w .definition)) (w .path)
 
-  literal-told : (w : Place) (T : Term) → getElem? ts (w .definition) ≡ some T → (o : Option Literal)
-      → literal-at T (w .path) ≡ o → there ts o ≡ true → Told s (some w) (found-at w)
+  literal-told : (w : Place) (T : Term) → getElem? ts (w .definition) ≡ some T → there ts (literal-at T (w .path)) ≡ true
+      → Told s (some w) (found-at w)
   unfolding there
-  literal-told w T e none x t = let z : _≡_ {A = ℕ} 0 1 = cc in absurd (omega arith)
-  literal-told w T e (some v) x t =
-      literal w T v refl e x
-      (find-literal text s q (w .definition) T e (w .path) ∙ ap (mark-of-literal (root (w .definition))) x)
+  literal-told w T e t =
+      ⊎-elim
+      (λ z. let y = rw (z .0) at t in let n : _≡_ {A = ℕ} 0 1 = cc in absurd (omega arith))
+      (literal w T refl e)
+      (found _ (w .definition) T (checked-roots text s q (w .definition) T e) (w .path))
 
   -- or 1 at the left-hand side of definition 00
   abbrev at-left : Place → Bool
@@ -227,7 +211,7 @@ module _ (text : List ℕ) (s : Sofar) (q : judged text ≡ accepted s) where
       start (ap some is-left) (rw t)
   place-marked w h false t =
       let (T, r) = listed ts (w .definition) h in
-      literal-told w T r _ refl (rw r at t)
+      literal-told w T r (rw r at t)
 
   -- a node's mark, where its line has its number and a place that is its
   label-told : (k : ℕ) (l : Label) → l .place .definition < length ts → eqb (l .reference) k ≡ true

@@ -87,12 +87,16 @@ unfolding starts
 starts-length n [] = refl
 starts-length n (t ∷ ts) = ap suc (starts-length (n + size t) ts)
 
--- the subterms of a leaf and of an operator
+-- the subterms of a leaf, of a prefix and of an operator
 pub leaf-subterms : (l : Leaf) → subterms (leaf-kind l) ≡ 0
 unfolding subterms leaf-kind
 leaf-subterms (call n) = refl
 leaf-subterms SKIP = refl
 leaf-subterms STOP = refl
+
+pub prefix-subterms : subterms Kind.prefix ≡ 1
+unfolding subterms
+prefix-subterms = refl
 
 pub operator-subterms : (o : Operator) → subterms (operator-kind o) ≡ 2
 unfolding subterms operator-kind
@@ -190,6 +194,17 @@ pub each-at : (d e : ℕ) (ts : List Term) → Each d e ts
 each-at d e [] h k t q = let z : _≡_ {A = ℕ} 0 1 = cc in absurd (omega arith)
 each-at d e (u ∷ ts) h zero t q = let same : u ≡ t = cc in rw same at (h .0)
 each-at d e (u ∷ ts) h (suc k) t q = each-at d e ts (h .1) k t q
+
+-- a list has a definition at exactly the numbers below its length
+pub listed : (ts : List Term) (k : ℕ) → k < length ts → (t : Term) × (getElem? ts k ≡ some t)
+listed [] k h = absurd (omega arith)
+listed (t ∷ ts) zero h = (t, refl)
+listed (t ∷ ts) (suc k) h = listed ts k (omega arith)
+
+pub listed-below : (ts : List Term) (k : ℕ) (t : Term) → getElem? ts k ≡ some t → k < length ts
+listed-below [] k t e = let z : _≡_ {A = ℕ} 0 1 = cc in absurd (omega arith)
+listed-below (u ∷ ts) zero t e = omega arith
+listed-below (u ∷ ts) (suc k) t e = omega (arith, listed-below ts k t e)
 
 -- one definition more behind the others
 each-snoc : (d e : ℕ) (ts : List Term) (u : Term) → Each d e ts → Fits d e 0 u → Each d e (ts ++ (u ∷ []))

@@ -1,5 +1,5 @@
 -- `finding::mark_of` meets its contract, by the line's number and whether it is node 0's. Assumes nothing.
-use Rattle.finding.proofs.Followed.{mark-other, mark-start, mark-found}
+use Rattle.finding.proofs.NodeLine.{mark-other, mark-start, mark-found}
 use borrow.Author.Needs.{needs}
 use Rattle.finding.proofs.mark_of.Statement.{statement}
 use Rattle.finding.proofs.mark_of.Tie as tie

@@ -1,5 +1,5 @@
 -- `finding::start_mark` meets its contract: each test on the line's bytes is one of the spec's. Assumes nothing.
-use Rattle.finding.proofs.Followed.{start-length, start-definition, start-path, start-fits}
+use Rattle.finding.proofs.NodeLine.{start-length, start-definition, start-path, start-fits}
 use borrow.Author.Needs.{needs}
 use Rattle.finding.proofs.start_mark.Statement.{statement}
 use Rattle.finding.proofs.start_mark.Tie as tie

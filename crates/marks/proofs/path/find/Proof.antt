@@ -1,4 +1,4 @@
--- `finding::find` meets its contract. The loop's invariant: what is found from the term that was reached on, by the
+-- `marks::path::find` meets its contract. The loop's invariant: what is found from the term that was reached on, by the
 -- digits that are left, is what is found from the root. The measure is how many bytes are left. Assumes nothing.
 use Prim.Native.Nat.{ℕ, _+_, _-_}
 use mathlib.Core.Path.{_≡_, refl, sym, ap, _∙_}
@@ -8,19 +8,19 @@ use lib.ListN.{drop}
 use Rattle.numbers.specs.code.Numbers.{read-bytes}
 use Rattle.kinds.specs.Kind.{subterms}
 use Rattle.places.proofs.Ways.{inside}
-use Rattle.finding.specs.code.Found as of
-use Rattle.finding.proofs.Followed.{found-end, found-leaf, found-first, found-event, found-astray}
-use Rattle.finding.proofs.Followed.{found-last}
+use Rattle.marks.specs.code.Followed as of
+use Rattle.marks.proofs.Followed.{found-end, found-leaf, found-first, found-event, found-astray}
+use Rattle.marks.proofs.Followed.{found-last}
 use borrow.Author.Needs.{needs}
-use Rattle.finding.proofs.find.Statement.{statement}
-use Rattle.finding.proofs.find.Tie as tie
+use Rattle.marks.proofs.path.find.Statement.{statement}
+use Rattle.marks.proofs.path.find.Tie as tie
 
 abbrev Inv-loop : tie.InvT-loop
-Inv-loop root chars kinds after count term₀ i₀ term i =
-    of.find kinds after root (drop 5 (read-bytes chars)) ≡ of.find kinds after term (drop i (read-bytes chars))
+Inv-loop root chars from kinds after count term₀ i₀ term i =
+    of.find kinds after root (drop from (read-bytes chars)) ≡ of.find kinds after term (drop i (read-bytes chars))
 
 abbrev μ-loop : tie.MeasureT-loop
-μ-loop root chars kinds after count term₀ i₀ term i = count - i
+μ-loop root chars from kinds after count term₀ i₀ term i = count - i
 
 loop-holds : tie.Need-loop-holds Inv-loop μ-loop
 loop-holds c = refl

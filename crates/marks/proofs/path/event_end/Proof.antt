@@ -1,10 +1,10 @@
--- `finding::event_end` meets its contract, by whether the path ends. Assumes nothing.
+-- `marks::path::event_end` meets its contract, by whether the path ends. Assumes nothing.
 use native.Mathlib.Omega.{arith}
 use borrow.Author.Tests.{not-true, not-false}
 use borrow.Author.Needs.{needs}
 use Rattle.marks.proofs.Laws.{event-small}
-use Rattle.finding.proofs.event_end.Statement.{statement}
-use Rattle.finding.proofs.event_end.Tie as tie
+use Rattle.marks.proofs.path.event_end.Statement.{statement}
+use Rattle.marks.proofs.path.event_end.Tie as tie
 
 returns : tie.Need-returns
 returns c = rw (not-true (c .before .args .ends) (c .if1 .taken))

@@ -1,8 +1,8 @@
--- `finding::own_here` meets its contract, by whether there is such a term. Assumes nothing.
-use Rattle.finding.proofs.Followed.{own-none, own-found}
+-- `marks::path::own_here` meets its contract, by whether there is such a term. Assumes nothing.
+use Rattle.marks.proofs.Followed.{own-none, own-found}
 use borrow.Author.Needs.{needs}
-use Rattle.finding.proofs.own_here.Statement.{statement}
-use Rattle.finding.proofs.own_here.Tie as tie
+use Rattle.marks.proofs.path.own_here.Statement.{statement}
+use Rattle.marks.proofs.path.own_here.Tie as tie
 
 returns : tie.Need-returns
 returns c = own-none _ (c .if1 .taken)

@@ -1,8 +1,8 @@
--- `finding::last_subterm` meets its contract, by how many subterms there are. Assumes nothing.
+-- `marks::path::last_subterm` meets its contract, by how many subterms there are. Assumes nothing.
 use borrow.Author.Tests.{eq-eqb, ne-eqb}
 use borrow.Author.Needs.{needs}
-use Rattle.finding.proofs.last_subterm.Statement.{statement}
-use Rattle.finding.proofs.last_subterm.Tie as tie
+use Rattle.marks.proofs.path.last_subterm.Statement.{statement}
+use Rattle.marks.proofs.path.last_subterm.Tie as tie
 
 add-after-of : tie.Need-add-after-of
 add-after-of c = search needs
