@@ -78,21 +78,52 @@ pub scripts-next-step-settled : Settles scripts-next-step.Learnt
     (λ κ x s. let (text, (at, (digits, _))) = s in x beside now digits)
 scripts-next-step-settled = by-equation (λ κ lent x s p. both (p .0) (p .1))
 
+pub refusals-first-line-settled : Settles refusals-first-line.Learnt (λ κ x s. x)
+refusals-first-line-settled = by-equation (λ κ lent x s p. p)
+
+pub refusals-table-line-settled : Settles refusals-table-line.Learnt (λ κ x s. x)
+refusals-table-line-settled = by-equation (λ κ lent x s p. p)
+
+pub kinds-subterms-settled : Settles kinds-subterms.Learnt (λ κ x s. x)
+kinds-subterms-settled = by-equation (λ κ lent x s p. p)
+
+pub kinds-payload-bytes-settled : Settles kinds-payload-bytes.Learnt (λ κ x s. x)
+kinds-payload-bytes-settled = by-equation (λ κ lent x s p. p)
+
+pub places-place-settled : Settles places-place.Learnt
+    (λ κ x s. let (literal, (kinds, (owners, (after, (roots, (path, _)))))) = s in x beside now path)
+places-place-settled = by-equation (λ κ lent x s p. both (p .0) (p .1))
+
+pub sets-has-settled : Settles sets-has.Learnt (λ κ x s. x)
+sets-has-settled = by-equation (λ κ lent x s p. p)
+
 pub sets-only-settled : Settles sets-only.Learnt (λ κ x s. x)
 sets-only-settled κ lent x y s t p q = told-once _ x y p q
+
+pub sets-either-settled : Settles sets-either.Learnt (λ κ x s. x)
+sets-either-settled κ lent x y s t p q = told-once _ x y p q
+
+pub sets-shared-settled : Settles sets-shared.Learnt (λ κ x s. x)
+sets-shared-settled κ lent x y s t p q = told-once _ x y p q
 
 pub sets-empty-settled : Settles sets-empty.Learnt (λ κ x s. x)
 sets-empty-settled κ lent x y s t p q = one-emptiness _ x y p q
 
-pub offers-offers-settled : Settles offers-offers.Learnt (λ κ x s. x)
-offers-offers-settled κ lent x y s t p q = offers-once x y (p .0 ∙ sym (q .0))
+pub inputs-table-end-settled : Settles inputs-table-end.Learnt (λ κ x s. x)
+inputs-table-end-settled = by-equation (λ κ lent x s p. p)
 
 pub plans-lay-out-settled : Settles plans-lay-out.Learnt
     (λ κ x s. let (terms, (kinds, (payloads, (after, (roots, (plan, _)))))) = s in now plan)
 plans-lay-out-settled = by-equation (λ κ lent x s p. p)
 
+pub offers-offers-settled : Settles offers-offers.Learnt (λ κ x s. x)
+offers-offers-settled κ lent x y s t p q = offers-once x y (p .0 ∙ sym (q .0))
+
+pub status-status-at-settled : Settles status-status-at.Learnt (λ κ x s. x)
+status-status-at-settled = by-equation (λ κ lent x s p. p .0)
+
 pub runs-start-settled : Settles runs-start.Learnt
-    (λ κ x s. let (nodes, (track, (counters, _))) = s in now nodes beside (now track beside now counters))
+    (λ κ x s. let (nodes, (track, (counters, _))) = s in now nodes beside now track beside now counters)
 runs-start-settled = by-equation (λ κ lent x s p. both (p .0) (both (p .1 .0) (p .1 .1 .0)))
 
 pub runs-step-settled : Settles runs-step.Learnt
@@ -104,6 +135,13 @@ pub playing-play-settled : Settles playing-play.Learnt
     (λ κ x s. let (text, (at, (digits, (plan, (sets, (nodes, (track, (counters, _)))))))) = s in
     with-played x (now nodes) (now track) (now counters) beside now digits)
 playing-play-settled = by-equation (λ κ lent x s p. both (p .0) (p .1 .0))
+
+pub links-link-settled : Settles links-link.Learnt
+    (λ κ x s. let (arcs, (marks, (track, (kinds, (after, (sides, _)))))) = s in x beside now sides)
+links-link-settled = by-equation (λ κ lent x s p. both (p .0) (p .1))
+
+pub writing-refusal-of-settled : Settles writing-refusal-of.Learnt (λ κ x s. x)
+writing-refusal-of-settled = by-equation (λ κ lent x s p. p)
 
 pub listing-list-settled : Settles listing-list.Learnt (λ κ x s. let (input, (out, _)) = s in x beside now out)
 listing-list-settled = by-equation (λ κ lent x s p. both (p .0) (p .1))
