@@ -3,7 +3,6 @@
 use Prim.Native.Nat.{ℕ, min}
 use mathlib.Core.Path.{_≡_, ap, _∙_}
 use mathlib.Core.List.{List}
-use lib.ListN.{length}
 use Rattle.columns.specs.words.Columns.{columns}
 use Rattle.control.specs.words.Words.{reference-room}
 use Rattle.counting.specs.code.Counting.{fresh, arcs, meetings}
@@ -12,7 +11,7 @@ use Rattle.walks.specs.code.Walked.{laid}
 use Rattle.links.specs.declared.GraphCounts.{GraphCounts}
 use Rattle.numbering.specs.code.Numbered.{Graph-numbered, with-counts, graph-numbered}
 use Rattle.framing.specs.words.Told.{graph-told}
-use Rattle.writing.specs.words.Slice.{answer, left}
+use Rattle.writing.specs.words.Slice.{with-slice, written}
 use Rattle.writing.specs.declared.Saved.{Saved}
 use Rattle.saving.specs.code.Saving.{marks-from, marks, graph-saved, numbered-told, text-of}
 use Rattle.saving.specs.words.Kept.{Saves}
@@ -35,12 +34,9 @@ module _ (ks os xs rs w g c : List ℕ) (drawn count a m : ℕ) (ms ls to : List
 
   -- and with it all that saving owes
   pub assembled : (r : Saved) (slice slice′ : List ℕ)
-      → r ≡ answer (graph-text (graph-told (columns ks os xs rs) ls to n)) (length slice)
-      → slice′ ≡ left (graph-text (graph-told (columns ks os xs rs) ls to n)) slice
-      → ((r ≡ answer (text-of ks os xs rs w g c) (length slice))
-      × (slice′ ≡ left (text-of ks os xs rs w g c) slice))
+      → with-slice r slice′ ≡ written (graph-text (graph-told (columns ks os xs rs) ls to n)) slice
+      → (with-slice r slice′ ≡ written (text-of ks os xs rs w g c) slice)
       × Saves (columns ks os xs rs) (lent w g c) slice r slice′
-  assembled r slice slice′ answered written =
-      let e = answered ∙ ap (λ t. answer t (length slice)) text-told in
-      let f = written ∙ ap (λ t. left t slice) text-told in
-      ((e, f), saves ks os xs rs w g c r slice slice′ e f)
+  assembled r slice slice′ e =
+      let f = e ∙ ap (λ t. written t slice) text-told in
+      (f, saves ks os xs rs w g c r slice slice′ f)

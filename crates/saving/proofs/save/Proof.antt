@@ -51,17 +51,11 @@ returns c =
     (lent .nodes .now) (lent .track .now) (lent .counters .now) _ _ _ _ _ _ _ _
     (taken .before .before .before .wide .ensures) (taken .before .before .at-most .ensures)
     (taken .take-marks .ensures) (counted .before .before .wide2 .ensures) (counted .wide3 .ensures)
-    (numbered .number .ensures .0) _ _ _ (written .write .ensures .0) (written .write .ensures .1) in (
-      done .0 .0,
+    (numbered .number .ensures .0) _ _ _ (written .write .ensures) in (
+      done .0,
       (
-        done .0 .1,
-        (
-          refl,
-          (
-            refl,
-            (refl, (scratch .0, (scratch .1 .0, (scratch .1 .1 .0, (scratch .1 .1 .1, done .1))))),
-          ),
-        ),
+        refl,
+        (refl, (refl, (scratch .0, (scratch .1 .0, (scratch .1 .1 .0, (scratch .1 .1 .1, done .1)))))),
       ),
     )
 
