@@ -40,7 +40,7 @@ use Rattle.framing.specs.words.Told.{place-by, labels-told, graph-told}
 use Rattle.writing.specs.declared.Saved.{Saved}
 use Rattle.saving.proofs.NumberedTold.{literal-placed}
 use Rattle.finding.specs.code.Found.{marks-of}
-use Rattle.reading.specs.code.Outcome.{Track-read, with-graph, graph-read, by-outcome}
+use Rattle.reading.specs.code.Outcome.{track-of, Track-read, with-graph, graph-read, by-outcome}
 use Rattle.reading.specs.words.Kept.{Reads}
 use Rattle.reading.specs.declared.Read.{Read}
 use Rattle.reading.specs.declared.Read.the-variants.{Accepted, Refused}
@@ -161,8 +161,9 @@ module _ {text ks ps os xs rs : List ℕ} {d : ℕ} {t : Sofar} (table : Table-o
   read-tells : (lines : List ℕ) (g : Graph) → read (definitions-of t) lines ≡ accepted g
       → told-in (counts-of g) (graph-read ks xs rs g) ≡ g
   read-tells lines g is =
-      rw (table .kinds-are, table .owners-are, table .after-are, table .roots-are)
-      (columns-tell text t (table .checked) lines g is)
+      ap (λ (c : Columns). told-by (c .kinds) (c .owners) (c .after) (c .roots)
+      (graph-read (c .kinds) (c .after) (c .roots) g .labels) (track-of g) (counts-of g)) (table .columns-are)
+      ∙ columns-tell text t (table .checked) lines g is
 
   -- an outcome of reading
   module _ (lines labels graph labels′ graph′ : List ℕ) (r : Read)

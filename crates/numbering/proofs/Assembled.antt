@@ -105,6 +105,11 @@ sets-over w b (u ∷ us) (v ∷ vs) e =
     ∙ ap (λ (l : List ℕ). sets l (suc b) us) (set-set w b u v))
     ∙ sets-over (set w b v) (suc b) us vs (omega arith)
 
+-- words that pairs are put to keep their length
+pub puts-long : (base : ℕ) (to : List ℕ) (ps : List Pair) (kept : ℕ) (to′ : List ℕ) → length to ≡ track-words
+    → with-count kept to′ ≡ pairs-put to base ps → length to′ ≡ track-words
+puts-long base to ps kept to′ long e = put-long base to to′ ps long (ap (λ (q : Pairs-put). q .track) e)
+
 -- pairs by their numbers below n are put, sorted, and counted
 abbrev Puts : ℕ → ℕ → ℕ → Bool → List ℕ → List ℕ → List ℕ → ℕ → List ℕ → Type 0
 Puts n base count either g ns to kept to′ =
@@ -137,7 +142,7 @@ module _ (n base count : ℕ) (either : Bool) (g ns to₀ to : List ℕ) (kept :
 
   -- what sorting asks of them
   pub kept-fits : (kept ≤ count) × (length to ≡ track-words) × (every (ends-below n) (pairs base to 0 kept) ≡ true)
-  kept-fits = (kept-most, put-long base to₀ to ps long stand, rw read low)
+  kept-fits = (kept-most, puts-long base to₀ ps kept to long puts, rw read low)
 
   -- and what it leaves
   pub kept-sorted : (to′ : List ℕ) → to′ ≡ sets to base (flat (sorted n (pairs base to 0 kept)))

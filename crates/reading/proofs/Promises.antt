@@ -26,7 +26,7 @@ use Rattle.reading.specs.words.Kept.{Reads}
 use Rattle.reading.specs.declared.Read.{Read}
 use Rattle.reading.specs.declared.Read.the-variants.{Accepted, Refused}
 use Rattle.reading.proofs.RuleLaws.{outcome-told}
-use Rattle.columns.specs.words.Columns.{read-columns}
+use Rattle.columns.specs.words.Columns.{Columns, read-columns}
 
 module _ (ks ps xs rs : List ℕ) where
   -- a text judged by its lines and then by the rules: the answer, and the columns
@@ -99,6 +99,6 @@ pub reads : (d : ℕ) (ks ps xs rs t labels graph : List ℕ) (r : Read) (labels
     → Reads d (read-columns ks ps xs rs) t labels graph r labels′ graph′
 reads d ks ps xs rs t labels graph r labels′ graph′ e text os s table many =
     let same : outcome ks ps xs rs d t ≡ Shape.read (definitions-of s) t =
-    rw (many, table .kinds-are, table .payloads-are, table .after-are, table .roots-are)
-    (outcome-told text s (table .checked) t) in
+    ap (λ (q : Columns). outcome (q .kinds) (q .payloads) (q .after) (q .roots) d t) (table .columns-are)
+    ∙ rw many (outcome-told text s (table .checked) t) in
     e ∙ ap (λ (p : Judged Graph). by-outcome ks xs rs p labels graph) same

@@ -2,14 +2,12 @@
 -- their numbers can be sorted; put together it is the graph by its numbers, and the scratch is cleared last.
 -- Assumes nothing.
 use Prim.Native.Nat.{ℕ}
-use mathlib.Core.Path.{refl, ap}
+use mathlib.Core.Path.{refl}
 use native.Mathlib.Omega.{arith}
 use lib.ListN.{replicate, length-replicate}
 use borrow.Author.Needs.{needs}
-use Rattle.links.proofs.Listed.{put-long}
 use Rattle.control.specs.words.Words.{track-words}
-use Rattle.pairing.specs.code.Renumbered.{Pairs-put}
-use Rattle.numbering.proofs.Assembled.{nodes-most, nodes-above, assembled}
+use Rattle.numbering.proofs.Assembled.{puts-long, nodes-most, nodes-above, assembled}
 use Rattle.numbering.proofs.number.Statement.{statement}
 use Rattle.numbering.proofs.number.Tie as tie
 
@@ -44,7 +42,7 @@ number-pairs-requires-2 c κs =
     let blank = length-replicate {A = ℕ} track-words 0 in (
       (omega (arith, nodes), omega (arith, counted .at-most2 .ensures), omega (arith, counted .at-most2 .ensures)),
       (
-        (put-long 0 (replicate track-words 0) _ _ blank (ap (λ (q : Pairs-put). q .track) (arcs .0)), arcs .1 .0),
+        (puts-long 0 (replicate track-words 0) _ _ _ blank (arcs .0), arcs .1 .0),
         nodes-above _ _ _ _ _ numbered,
       ),
     )
