@@ -1,18 +1,16 @@
 -- What the theorems about a table's runs take is what its check and its layout have answered: a caller who has called both
 -- doors has every premise, with no further assumption. Assumes nothing.
 use Prim.Native.Nat.{ℕ}
-use mathlib.Core.Path.{_≡_, refl, sym, ap, _∙_}
+use mathlib.Core.Path.{_≡_, sym, ap, ap₂, _∙_}
 use mathlib.Core.List.{List}
-use native.Mathlib.Omega.{arith}
 use lib.ListN.{length}
-use Rattle.lines.specs.Judging.{Judged, accepted, refused}
-use Rattle.columns.specs.words.Columns.{all-columns}
+use Rattle.columns.specs.words.Columns.{Columns, all-columns}
 use Rattle.tables.specs.Table.{Sofar, judged}
-use Rattle.tables.specs.words.Columns.{Table-of, answer, left, kinds, payloads, owners, afters, roots}
+use Rattle.tables.specs.words.Columns.{Table-of, Outcome, with-columns, outcome}
 use Rattle.tables.specs.declared.Checked.{Checked}
 use Rattle.tables.specs.declared.Checked.the-variants.{Accepted}
 use Rattle.tables.specs.declared.TableCounts.{TableCounts}
-use Rattle.tables.proofs.Settled.{Promised}
+use Rattle.tables.proofs.Whole.{outcome-accepts}
 use Rattle.terms.specs.Term.{definitions-of}
 use Rattle.terms.proofs.Trees.{checked-trees}
 use Rattle.plans.specs.code.Laid.{laid-out}
@@ -26,49 +24,22 @@ pub record Checked-and-laid (text ks ps os xs rs p : List ℕ) (n : TableCounts)
   pub planned : Planned p ps table
   pub definitions-are : n .definitions ≡ length (definitions-of table)
 
--- an accepted answer tells the table's counts, and a refused one is none
-accepted-counts : (t : Sofar) (n : TableCounts) → answer (accepted t) ≡ Accepted n
-    → (n .definitions ≡ t .definitions) × (n .terms ≡ length (t .terms))
-unfolding answer
-accepted-counts t n e =
-    let counts : TableCounts = record { definitions = t .definitions; events = t .events; terms = length (t .terms) } in
-    let same : counts ≡ n = cc in
-    (ap (λ (m : TableCounts). m .definitions) (sym same), ap (λ (m : TableCounts). m .terms) (sym same))
-
-refused-not : (n : TableCounts) (r l : ℕ) → answer (refused r l) ≡ Accepted n → ⊥
-unfolding answer
-refused-not n r l e = let z : _≡_ {A = ℕ} 0 1 = cc in omega arith
-
 module _ (text ks₀ ps₀ os₀ xs₀ rs₀ : List ℕ) {ks ps os xs rs p : List ℕ} {c : Checked} (n : TableCounts)
-    (checks : Promised text ks₀ ps₀ os₀ xs₀ rs₀ c ks ps os xs rs) (accepts : c ≡ Accepted n)
-    (laid : p ≡ laid-out (n .terms) ks ps xs rs) where
+    (checks : with-columns c (all-columns ks ps os xs rs) ≡ outcome (all-columns ks₀ ps₀ os₀ xs₀ rs₀) (judged text))
+    (accepts : c ≡ Accepted n) (laid : p ≡ laid-out (n .terms) ks ps xs rs) where
   pub from-doors : Checked-and-laid text ks ps os xs rs p n
-  unfolding left
-  from-doors = go (judged text) refl (sym (checks .0) ∙ accepts)
-    where
-      go : (j : Judged Sofar) → judged text ≡ j → answer (judged text) ≡ Accepted n
-          → Checked-and-laid text ks ps os xs rs p n
-      go (refused r l) is e = absurd (refused-not n r l (ap answer (sym is) ∙ e))
-      go (accepted t) is e =
-          let counts = accepted-counts t n (ap answer (sym is) ∙ e) in
-          let kinds-are : ks ≡ kinds t = checks .1 ∙ ap (λ j. left kinds j ks₀) is in
-          let payloads-are : ps ≡ payloads t = checks .2 ∙ ap (λ j. left payloads j ps₀) is in
-          let owners-are : os ≡ owners t = checks .3 ∙ ap (λ j. left owners j os₀) is in
-          let after-are : xs ≡ afters t = checks .4 ∙ ap (λ j. left afters j xs₀) is in
-          let roots-are : rs ≡ roots t = checks .5 ∙ ap (λ j. left roots j rs₀) is in
-          record {
-            table = t;
-            columns-hold = record {
-              checked = is;
-              kinds-are = kinds-are;
-              payloads-are = payloads-are;
-              owners-are = owners-are;
-              after-are = after-are;
-              roots-are = roots-are;
-            };
-            planned = record {
-              plan-is = laid ∙ rw (counts .1, kinds-are, payloads-are, after-are, roots-are);
-              sets-are = payloads-are;
-            };
-            definitions-are = counts .0 ∙ sym (checked-trees text t is .many);
-          }
+  from-doors =
+      let told = sym (ap (λ (q : Outcome). q .answer) checks) ∙ accepts in
+      let (t, is, counts, columns-left) = outcome-accepts _ (judged text) n told in
+      let columns-are = ap (λ (q : Outcome). q .columns) checks ∙ columns-left in
+      record {
+        table = t;
+        columns-hold = record { checked = is; columns-are = columns-are };
+        planned = record {
+          plan-is = laid
+              ∙ ap₂ (λ (m : TableCounts) (d : Columns). laid-out (m .terms) (d .kinds) (d .payloads) (d .after) (d .roots))
+              counts columns-are;
+          sets-are = ap (λ (d : Columns). d .payloads) columns-are;
+        };
+        definitions-are = ap (λ (m : TableCounts). m .definitions) counts ∙ sym (checked-trees text t is .many);
+      }

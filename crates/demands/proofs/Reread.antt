@@ -2,7 +2,7 @@
 -- reading leaves tell the graph that the text says: its marks tell the places of its nodes, which stand in number
 -- order, and its pairs are read back from their words. So what is written of them is the text. Assumes nothing.
 use Prim.Native.Nat.{ℕ, zero, suc, _+_, min, _≤_, _<_}
-use mathlib.Core.Path.{_≡_, refl, sym, ap, ap₂, _∙_}
+use mathlib.Core.Path.{_≡_, refl, sym, ap, _∙_}
 use mathlib.Core.Bool.{Bool, true, false, not}
 use mathlib.Core.List.{List}
 use mathlib.Core.Option.{some}
@@ -40,7 +40,7 @@ use Rattle.framing.specs.words.Told.{place-by, labels-told, graph-told}
 use Rattle.writing.specs.declared.Saved.{Saved}
 use Rattle.saving.proofs.NumberedTold.{literal-placed}
 use Rattle.finding.specs.code.Found.{marks-of}
-use Rattle.reading.specs.code.Outcome.{answer, labels-left, graph-left}
+use Rattle.reading.specs.code.Outcome.{track-of, Track-read, with-graph, graph-read, by-outcome}
 use Rattle.reading.specs.words.Kept.{Reads}
 use Rattle.reading.specs.declared.Read.{Read}
 use Rattle.reading.specs.declared.Read.the-variants.{Accepted, Refused}
@@ -150,24 +150,20 @@ module _ (text : List ℕ) (t : Sofar) (q : judged text ≡ accepted t) (lines :
   unfolding graph-told
   columns-tell = rw (labels-are, arcs-are, meetings-are)
 
--- an accepted text says a graph, whose counts the answer has
-accepted-says : (o : Judged Graph) (n : GraphCounts) → answer o ≡ Accepted n
-    → (g : Graph) × (o ≡ accepted g) × (n ≡ counts-of g)
-unfolding answer
-accepted-says (accepted g) n e = (g, refl, let same : n ≡ counts-of g = cc in same)
-accepted-says (refused m k) n e = let z : _≡_ {A = ℕ} 0 1 = cc in absurd (omega arith)
-
 -- a table's columns, as its check left them
 module _ {text ks ps os xs rs : List ℕ} {d : ℕ} {t : Sofar} (table : Table-of text (all-columns ks ps os xs rs) t)
     (many : d ≡ length (definitions-of t)) where
-  -- what reading leaves where a text says a graph tells it
-  left-tell : (lines : List ℕ) (g : Graph) → read (definitions-of t) lines ≡ accepted g → (labels graph : List ℕ)
-      → told-by ks os xs rs (labels-left ks ps xs rs (accepted g) labels) (graph-left (accepted g) graph) (counts-of g)
-      ≡ g
-  unfolding labels-left graph-left
-  left-tell lines g is labels graph =
-      rw (table .kinds-are, table .owners-are, table .after-are, table .roots-are)
-      (columns-tell text t (table .checked) lines g is)
+  -- the graph that columns tell behind a read, by its counts
+  abbrev told-in : GraphCounts → Track-read → Graph
+  told-in n q = told-by ks os xs rs (q .labels) (q .graph) n
+
+  -- where a text says a graph, what is read of it tells that graph
+  read-tells : (lines : List ℕ) (g : Graph) → read (definitions-of t) lines ≡ accepted g
+      → told-in (counts-of g) (graph-read ks xs rs g) ≡ g
+  read-tells lines g is =
+      ap (λ (c : Columns). told-by (c .kinds) (c .owners) (c .after) (c .roots)
+      (graph-read (c .kinds) (c .after) (c .roots) g .labels) (track-of g) (counts-of g)) (table .columns-are)
+      ∙ columns-tell text t (table .checked) lines g is
 
   -- an outcome of reading
   module _ (lines labels graph labels′ graph′ : List ℕ) (r : Read)
@@ -176,43 +172,44 @@ module _ {text ks ps os xs rs : List ℕ} {d : ℕ} {t : Sofar} (table : Table-o
     pub accepted-tells : (n : GraphCounts) → r ≡ Accepted n
         → (read (definitions-of t) lines ≡ accepted (told-by ks os xs rs labels′ graph′ n))
         × (n ≡ counts-of (told-by ks os xs rs labels′ graph′ n))
-    accepted-tells n is =
-        let (told, stand, linked) = reads text os t table many in
-        let (g, says-g, counts) = accepted-says _ n (sym told ∙ is) in
-        go g stand linked says-g counts
+    unfolding by-outcome
+    accepted-tells n is = go (read (definitions-of t) lines) refl (reads text os t table many)
       where
-        go : (g : Graph) → labels′ ≡ labels-left ks ps xs rs (read (definitions-of t) lines) labels
-            → graph′ ≡ graph-left (read (definitions-of t) lines) graph
-            → read (definitions-of t) lines ≡ accepted g → n ≡ counts-of g
-            → (read (definitions-of t) lines ≡ accepted (told-by ks os xs rs labels′ graph′ n))
+        go : (o : Judged Graph) → read (definitions-of t) lines ≡ o
+            → with-graph r labels′ graph′ ≡ by-outcome ks xs rs o labels graph
+            → (o ≡ accepted (told-by ks os xs rs labels′ graph′ n))
             × (n ≡ counts-of (told-by ks os xs rs labels′ graph′ n))
-        go g stand linked says-g counts =
-            let tells : told-by ks os xs rs labels′ graph′ n ≡ g =
-            rw (stand, linked, says-g, counts) (left-tell lines g says-g labels graph) in
-            (says-g ∙ ap accepted (sym tells), counts ∙ ap counts-of (sym tells))
+        go (accepted g) says e =
+            let answered = sym is ∙ ap (λ (q : Track-read). q .answer) e in
+            let counts : n ≡ counts-of g = cc in
+            let tells = ap (told-in n) e ∙ ap (λ m. told-in m (graph-read ks xs rs g)) counts ∙ read-tells lines g says in
+            (ap accepted (sym tells), counts ∙ ap counts-of (sym tells))
+        go (refused m k) says e =
+            let answered = sym is ∙ ap (λ (q : Track-read). q .answer) e in
+            let z : _≡_ {A = ℕ} 0 1 = cc in absurd (omega arith)
 
     -- "A refused table, save or read writes nothing"
     pub refused-writes-nothing : (n k : ℕ) → r ≡ Refused n k → (labels′ ≡ labels) × (graph′ ≡ graph)
-    unfolding answer labels-left graph-left
-    refused-writes-nothing n k is =
-        let (told, stand, linked) = reads text os t table many in
-        go (read (definitions-of t) lines) (sym is ∙ told) stand linked
+    unfolding by-outcome
+    refused-writes-nothing n k is = go (read (definitions-of t) lines) (reads text os t table many)
       where
-        go : (o : Judged Graph) → Refused n k ≡ answer o → labels′ ≡ labels-left ks ps xs rs o labels
-            → graph′ ≡ graph-left o graph → (labels′ ≡ labels) × (graph′ ≡ graph)
-        go (accepted g) e f h = let z : _≡_ {A = ℕ} 0 1 = cc in absurd (omega arith)
-        go (refused m j) e f h = (f, h)
+        go : (o : Judged Graph) → with-graph r labels′ graph′ ≡ by-outcome ks xs rs o labels graph
+            → (labels′ ≡ labels) × (graph′ ≡ graph)
+        go (accepted g) e =
+            let answered = sym is ∙ ap (λ (q : Track-read). q .answer) e in
+            let z : _≡_ {A = ℕ} 0 1 = cc in absurd (omega arith)
+        go (refused m j) e = (ap (λ (q : Track-read). q .labels) e, ap (λ (q : Track-read). q .graph) e)
 
     -- "and writes again as the same text": whatever text was accepted, what is written of the columns is that text
     pub writes-again : (n : GraphCounts) → r ≡ Accepted n → (slice slice′ : List ℕ) (r′ : Saved)
         → Writes (told-by ks os xs rs labels′ graph′ n) slice r′ slice′ → length lines ≤ length slice
         → bytes-of r′ slice′ ≡ lines
-    writes-again n is slice slice′ r′ (ends, stands) long =
+    writes-again n is slice slice′ r′ writes long =
         let g = told-by ks os xs rs labels′ graph′ n in
         let (some-first, few) = checked-count text t (table .checked) in
         let same : graph-text g ≡ lines =
         read-writes-again (definitions-of t) few lines g (accepted-tells n is .0) .1 in
-        ap₂ bytes-of ends stands ∙ written-bytes (graph-text g) slice (omega (arith, ap length same, long)) ∙ same
+        written-bytes (graph-text g) slice (omega (arith, ap length same, long)) writes ∙ same
 
   -- "A saved track reads back as its graph": the bytes that a save has left are accepted, and the columns tell the
   -- run's track by its saved numbers
@@ -222,14 +219,14 @@ module _ {text ks ps os xs rs : List ℕ} {d : ℕ} {t : Sofar} (table : Table-o
       → Reads d (read-columns ks ps xs rs) (bytes-of r slice′) labels graph r′ labels′ graph′
       → (r′ ≡ Accepted (counts-of (canonical (graph-of s))))
       × (told-by ks os xs rs labels′ graph′ (counts-of (canonical (graph-of s))) ≡ canonical (graph-of s))
-  unfolding answer
+  unfolding by-outcome
   reads-back v s held slice slice′ r save long labels graph labels′ graph′ r′ reads =
       let bytes = save-leaves table v s held slice slice′ r save long in
       let (some-first, few) = checked-count text t (table .checked) in
       let says-it : read (definitions-of t) (bytes-of r slice′) ≡ accepted (canonical (graph-of s)) =
       ap (read (definitions-of t)) bytes
       ∙ saved-reads-back (definitions-of t) (held .reached) (checked-shallow text t (table .checked)) some-first few in
-      let (told, stand, linked) = reads text os t table many in (
-        told ∙ ap answer says-it,
-        rw (stand, linked, says-it) (left-tell (bytes-of r slice′) _ says-it labels graph),
+      let told = reads text os t table many ∙ ap (λ o. by-outcome ks xs rs o labels graph) says-it in (
+        ap (λ (q : Track-read). q .answer) told,
+        ap (told-in (counts-of (canonical (graph-of s)))) told ∙ read-tells (bytes-of r slice′) _ says-it,
       )

@@ -2,14 +2,13 @@
 -- track's text, which stands in front of a slice that is long enough; so equal bytes are equal texts, and these there
 -- are exactly for runs that a renumbering carries onto each other. Assumes nothing.
 use Prim.Native.Nat.{ℕ, _≤_, _<_}
-use mathlib.Core.Path.{_≡_, sym, ap₂, _∙_}
+use mathlib.Core.Path.{_≡_, sym, ap, _∙_}
 use mathlib.Core.List.{List}
 use mathlib.Core.Option.{some}
 use mathlib.Core.Logic.{_↔_}
 use native.Mathlib.Omega.{arith}
 use lib.ListN.{length, getElem?}
 use lib.Seq.{sets-eq, take-append-seam}
-use borrow.Author.Tests.{le-leb, lt-leb}
 use Rattle.lines.specs.Judging.{accepted}
 use Rattle.tables.specs.Table.{Sofar, judged}
 use Rattle.terms.specs.Term.{Term, definitions-of, Shallow}
@@ -19,9 +18,10 @@ use Rattle.graphs.specs.Graph.{graph-of}
 use Rattle.graphs.specs.Saved.{saved}
 use Rattle.graphs.specs.Renumbering.{Renumbering}
 use Rattle.graphs.proofs.Exactly.{saved-equal-exactly}
-use Rattle.writing.specs.words.Slice.{answer, left}
+use Rattle.writing.specs.words.Slice.{Put, with-slice, written}
 use Rattle.writing.specs.declared.Saved.{Saved}
 use Rattle.writing.specs.declared.Saved.the-variants.{Short}
+use Rattle.writing.proofs.Whole.{written-whole, written-short}
 use Rattle.columns.specs.words.Columns.{all-columns}
 use Rattle.tables.specs.words.Columns.{Table-of}
 use Rattle.runs.specs.words.Held.{Words}
@@ -30,10 +30,11 @@ use Rattle.demands.specs.words.Bytes.{bytes-of}
 
 -- a text that is written into a slice long enough stands in front of it
 pub written-bytes : (t slice : List ℕ) → length t ≤ length slice
-    → bytes-of (answer t (length slice)) (left t slice) ≡ t
-unfolding bytes-of answer left
-written-bytes t slice fits =
-    rw (le-leb (length t) (length slice) fits, sets-eq t slice 0 (omega arith)) (take-append-seam t _)
+    → {r : Saved} {after : List ℕ} → with-slice r after ≡ written t slice → bytes-of r after ≡ t
+unfolding bytes-of
+written-bytes t slice fits e =
+    ap (λ (q : Put). bytes-of (q .answer) (q .slice)) (e ∙ written-whole t slice fits)
+    ∙ rw (sets-eq t slice 0 (omega arith)) (take-append-seam t _)
 
 -- the definitions of a checked table: every literal's path has room
 pub checked-shallow : (text : List ℕ) (t : Sofar) → judged text ≡ accepted t
@@ -57,18 +58,14 @@ module _ {text ks ps os xs rs : List ℕ} {t : Sofar} (table : Table-of text (al
       (save : SavesWords ks os xs rs v slice r slice′) where
     -- into a slice long enough, it leaves the track's saved text
     pub save-leaves : length (saved (graph-of s)) ≤ length slice → bytes-of r slice′ ≡ saved (graph-of s)
-    save-leaves fits =
-        let (told, stands) = save text ps p x t s table held in
-        ap₂ bytes-of told stands ∙ written-bytes (saved (graph-of s)) slice fits
+    save-leaves fits = written-bytes (saved (graph-of s)) slice fits (save text ps p x t s table held)
 
     -- "A refused table, save or read writes nothing": into a shorter one it writes nothing, and tells the length
     pub short-save : length slice < length (saved (graph-of s))
         → (r ≡ Short (length (saved (graph-of s)))) × (slice′ ≡ slice)
-    unfolding answer left
     short-save short =
-        let (told, stands) = save text ps p x t s table held in
-        let over = lt-leb (length (saved (graph-of s))) (length slice) short in
-        (rw over at told, rw over at stands)
+        let told = save text ps p x t s table held ∙ written-short (saved (graph-of s)) slice short in
+        (ap (λ (q : Put). q .answer) told, ap (λ (q : Put). q .slice) told)
 
   -- "Two runs of one table save equal bytes exactly when a renumbering that fixes the start node carries the saved
   -- nodes, places, arcs and meetings of one onto the other"

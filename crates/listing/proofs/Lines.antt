@@ -13,9 +13,10 @@ use lib.Dec.{leb}
 use borrow.Author.Tests.{leb-true, leb-false, le-leb, lt-leb}
 use Rattle.lines.specs.Line.{choose}
 use Rattle.spelling.specs.words.Puts.{Puts}
-use Rattle.writing.specs.words.Slice.{answer, left}
+use Rattle.writing.specs.words.Slice.{Put, with-slice, written}
 use Rattle.writing.specs.declared.Saved.{Saved}
 use Rattle.writing.specs.declared.Saved.the-variants.{Written, Short}
+use Rattle.writing.proofs.Whole.{written-whole}
 use Rattle.telling.specs.ListingFrame.{alone}
 use Rattle.listing.specs.Listing.{save-room, within-room}
 use Rattle.listing.specs.code.Told.{stop-text}
@@ -35,52 +36,65 @@ stop-told (suc r) n h = refl
 first-characters : (t lent : List ℕ) → length t ≤ length lent → take (length t) (sets lent 0 t) ≡ t
 first-characters t lent h = rw (sets-eq t lent 0 (omega arith)) (take-at t _ (length t) refl)
 
--- an answer that a text is written tells its length, which is within the room
-written-fits : (m room n : ℕ) (fits : Bool) → leb m room ≡ fits → choose fits (Written m) (Short m) ≡ Written n
-    → (n ≡ m) × (m ≤ room)
-written-fits m room n true e p = (cc, leb-true m room e)
-written-fits m room n false e p = let z : _≡_ {A = ℕ} 0 1 = cc in absurd (omega arith)
+-- what a text is told as, by whether the slice has room for it
+module _ (t slice : List ℕ) where
+  -- one that is told as written is within the room, and its length is told
+  written-fits : (n : ℕ) → written t slice .answer ≡ Written n → (n ≡ length t) × (length t ≤ length slice)
+  unfolding written
+  written-fits n = go (leb (length t) (length slice)) refl
+    where
+      go : (fits : Bool) → leb (length t) (length slice) ≡ fits
+          → choose fits (with-slice (Written (length t)) (sets slice 0 t)) (with-slice (Short (length t)) slice) .answer
+          ≡ Written n
+          → (n ≡ length t) × (length t ≤ length slice)
+      go true e p = (cc, leb-true (length t) (length slice) e)
+      go false e p = let z : _≡_ {A = ℕ} 0 1 = cc in absurd (omega arith)
 
--- an answer that it is not is of one that passes the room
-short-passes : (m room n : ℕ) (fits : Bool) → leb m room ≡ fits → choose fits (Written m) (Short m) ≡ Short n
-    → room < m
-short-passes m room n true e p = let z : _≡_ {A = ℕ} 0 1 = cc in absurd (omega arith)
-short-passes m room n false e p = leb-false m room e
+  -- one that is not passes the room
+  short-passes : (n : ℕ) → written t slice .answer ≡ Short n → length slice < length t
+  unfolding written
+  short-passes n = go (leb (length t) (length slice)) refl
+    where
+      go : (fits : Bool) → leb (length t) (length slice) ≡ fits
+          → choose fits (with-slice (Written (length t)) (sets slice 0 t)) (with-slice (Short (length t)) slice) .answer
+          ≡ Short n
+          → length slice < length t
+      go true e p = let z : _≡_ {A = ℕ} 0 1 = cc in absurd (omega arith)
+      go false e p = leb-false (length t) (length slice) e
 
--- where a track was not written, refusal 12 is told
-pub track-short : {a b n : ℕ} {s u : List ℕ} {r : Saved} (t : List ℕ) (room : ℕ) → r ≡ answer t room
-    → room ≡ save-room
-    → r ≡ Short n
-    → Puts a (alone 12 0) s u b
-    → Puts a (within-room t) s u b
-unfolding answer within-room
-track-short {n = n} t room told sized e p =
-    let over = short-passes (length t) room n _ refl (sym told ∙ e) in
-    let test : leb (length t) save-room ≡ false = lt-leb (length t) save-room (omega arith) in
-    simp test p
+-- a track in an array that has its room
+module _ (t lent : List ℕ) {kept : List ℕ} {r : Saved} (is : with-slice r kept ≡ written t lent)
+    (sized : length lent ≡ save-room) where
+  answer-is : r ≡ written t lent .answer
+  answer-is = ap (λ (q : Put). q .answer) is
 
-module _ (t lent : List ℕ) {kept : List ℕ} {r : Saved} {n : ℕ} (is : kept ≡ left t lent)
-    (told : r ≡ answer t (length lent)) (sized : length lent ≡ save-room) (written : r ≡ Written n) where
-  -- where it was, it stands in front of the slice
-  track-in-front : (n ≡ length t) × (n ≤ save-room) × (kept ≡ sets lent 0 t)
-  unfolding answer left
-  track-in-front =
-      let fits = written-fits (length t) (length lent) n _ refl (sym told ∙ written) in
-      let test : leb (length t) (length lent) ≡ true = le-leb (length t) (length lent) (fits .1) in
-      (fits .0, omega arith, is ∙ simp test)
-
-  -- so it is within it
-  pub track-fits : (n ≤ length kept) × (n ≤ save-room)
-  track-fits =
-      let front = track-in-front in
-      let same : length kept ≡ length lent = ap length (front .2) ∙ length-sets lent 0 t in
-      omega arith
-
-  -- and the slice's first characters are told
-  pub track-whole : {a b : ℕ} {s u : List ℕ} → Puts a (take n kept) s u b → Puts a (within-room t) s u b
+  -- where it was not written, refusal 12 is told
+  pub track-short : {a b n : ℕ} {s u : List ℕ} → r ≡ Short n → Puts a (alone 12 0) s u b → Puts a (within-room t) s u b
   unfolding within-room
-  track-whole p =
-      let front = track-in-front in
-      let test : leb (length t) save-room ≡ true = le-leb (length t) save-room (omega arith) in
-      let whole : take n kept ≡ t = rw (front .2, front .0) (first-characters t lent (omega arith)) in
-      simp test (rw whole at p)
+  track-short {n = n} e p =
+      let over = short-passes t lent n (sym answer-is ∙ e) in
+      let test : leb (length t) save-room ≡ false = lt-leb (length t) save-room (omega arith) in
+      simp test p
+
+  module _ {n : ℕ} (told : r ≡ Written n) where
+    -- where it was, it stands in front of the slice
+    track-in-front : (n ≡ length t) × (n ≤ save-room) × (kept ≡ sets lent 0 t)
+    track-in-front =
+        let fits = written-fits t lent n (sym answer-is ∙ told) in
+        (fits .0, omega arith, ap (λ (q : Put). q .slice) (is ∙ written-whole t lent (fits .1)))
+
+    -- so it is within it
+    pub track-fits : (n ≤ length kept) × (n ≤ save-room)
+    track-fits =
+        let front = track-in-front in
+        let same : length kept ≡ length lent = ap length (front .2) ∙ length-sets lent 0 t in
+        omega arith
+
+    -- and the slice's first characters are told
+    pub track-whole : {a b : ℕ} {s u : List ℕ} → Puts a (take n kept) s u b → Puts a (within-room t) s u b
+    unfolding within-room
+    track-whole p =
+        let front = track-in-front in
+        let test : leb (length t) save-room ≡ true = le-leb (length t) save-room (omega arith) in
+        let whole : take n kept ≡ t = rw (front .2, front .0) (first-characters t lent (omega arith)) in
+        simp test (rw whole at p)

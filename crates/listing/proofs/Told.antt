@@ -74,15 +74,7 @@ module _ (table : List ℕ) (t : Sofar) (q : judged table ≡ accepted t) where
     track-told : text-of (kinds t) (owners t) (afters t) (roots t) w g c ≡ saved (graph-of s)
     track-told =
         saves-told table (kinds t) (payloads t) (owners t) (afters t) (roots t) t
-        (record {
-          checked = q;
-          kinds-are = refl;
-          payloads-are = refl;
-          owners-are = refl;
-          after-are = refl;
-          roots-are = refl;
-        })
-        p x w g c s held
+        (record { checked = q; columns-are = refl }) p x w g c s held
 
   -- what is told of lines that have stopped is their listing
   stopped-told : (p x : List ℕ) (z : Stopped) (r : Played) → Agrees (layout t) p x ts z r

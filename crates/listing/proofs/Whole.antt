@@ -1,7 +1,7 @@
 -- The listing as a whole: a run's parts are put behind one another, a script goes by its room, and an input by
 -- what its table is judged. One law for each way out of the code. Assumes nothing.
 use Prim.Native.Nat.{ℕ, zero, suc, _+_, _-_, _≤_, _<_}
-use mathlib.Core.Path.{_≡_, sym, _∙_}
+use mathlib.Core.Path.{_≡_, sym, ap, ap₂, _∙_}
 use mathlib.Core.List.{List, [], _∷_, map}
 use native.Mathlib.Omega.{arith}
 use lib.ListN.{length, getD, take, drop, length-drop}
@@ -10,11 +10,12 @@ use borrow.Author.Tests.{le-leb, lt-leb}
 use Rattle.lines.specs.Line.{lines, text, hex, two}
 use Rattle.lines.specs.Judging.{Judged, accepted, refused}
 use Rattle.tables.specs.Table.{Sofar, judged}
-use Rattle.tables.specs.words.Columns.{answer, left, kinds, payloads, owners, afters, roots}
+use Rattle.columns.specs.words.Columns.{Columns, all-columns}
+use Rattle.tables.specs.words.Columns.{columns-of, table-counts, Outcome, with-columns, outcome}
 use Rattle.tables.specs.declared.TableCounts.{TableCounts}
 use Rattle.tables.specs.declared.Checked.{Checked}
 use Rattle.tables.specs.declared.Checked.the-variants.{Accepted, Refused}
-use Rattle.tables.proofs.Whole.{answer-refuses, answer-accepts}
+use Rattle.tables.proofs.Whole.{outcome-refuses, outcome-accepts}
 use Rattle.plans.specs.code.Laid.{laid-out}
 use Rattle.status.specs.code.Status.{status}
 use Rattle.rules.specs.declared.Status.{Status}
@@ -112,28 +113,31 @@ module _ (input : List ℕ) (end : ℕ) (ends : end ≡ table-length (lines inpu
   unfolding listing table-text Cut.script-text
   by-judged j e = rw (← e, ends)
 
-  module _ {s t : List ℕ} {r : ℕ} (checked : Checked) where
+  -- where its check has come to an outcome
+  module _ (old : Columns) {c : Checked} {ks ps os xs rs : List ℕ}
+      (checks : with-columns c (all-columns ks ps os xs rs) ≡ outcome old (judged (take end input))) where
+    -- its answer
+    told : c ≡ outcome old (judged (take end input)) .answer
+    told = ap (λ (q : Outcome). q .answer) checks
+
     -- the table is refused
-    pub refused-listed : (number line : ℕ) → checked ≡ answer (judged (take end input))
-        → checked ≡ Refused number line → Puts 0 (alone number line) s t r → Listed input s t r
+    pub refused-listed : {s t : List ℕ} {r : ℕ} (number line : ℕ) → c ≡ Refused number line
+        → Puts 0 (alone number line) s t r → Listed input s t r
     unfolding table-listing
-    refused-listed number line told is q =
-        let over = answer-refuses (judged (take end input)) number line (sym told ∙ is) in
+    refused-listed number line is q =
+        let over = outcome-refuses old (judged (take end input)) number line (sym told ∙ is) in
         listed input (alone number line) (by-judged (refused number line) over) q
 
     -- the table is accepted, and the columns hold it
-    pub accepted-listed : (counts : TableCounts) (k₀ p₀ o₀ a₀ r₀ : List ℕ) {ks ps os xs rs : List ℕ}
-        → (checked ≡ answer (judged (take end input)))
-        × ((ks ≡ left kinds (judged (take end input)) k₀) × ((ps ≡ left payloads (judged (take end input)) p₀)
-        × ((os ≡ left owners (judged (take end input)) o₀) × ((xs ≡ left afters (judged (take end input)) a₀)
-        × (rs ≡ left roots (judged (take end input)) r₀)))))
-        → checked ≡ Accepted counts → Puts 0 (script-text (counts .terms) ks ps os xs rs lent) s t r
-        → Listed input s t r
-    unfolding left
-    accepted-listed counts k₀ p₀ o₀ a₀ r₀ told is q =
-        let table = answer-accepts (judged (take end input)) counts (sym (told .0) ∙ is) in
-        let columns = rw (table .1) at (told .1) in
-        let same = script-listed (take end input) (table .0) (table .1) (drop end input) in
-        let words = columns .1 .1 in
-        listed input _ (by-judged (accepted (table .0)) (table .1) ∙ sym same)
-        (rw (lent-is, table .2, columns .0, columns .1 .0, words .0, words .1 .0, words .1 .1) at q)
+    pub accepted-listed : {s t : List ℕ} {r : ℕ} (n : TableCounts) → c ≡ Accepted n
+        → Puts 0 (script-text (n .terms) ks ps os xs rs lent) s t r → Listed input s t r
+    accepted-listed n is q =
+        let (table, judged-so, counts, columns-are) = outcome-accepts old (judged (take end input)) n (sym told ∙ is) in
+        let script : TableCounts → Columns → List ℕ =
+        λ m d. script-text (m .terms) (d .kinds) (d .payloads) (d .owners) (d .after) (d .roots) (drop end input) in
+        let same : script n (all-columns ks ps os xs rs) ≡ script (table-counts table) (columns-of table) =
+        ap₂ script counts (ap (λ (q : Outcome). q .columns) checks ∙ columns-are) in
+        listed input _
+        (by-judged (accepted table) judged-so
+        ∙ sym (script-listed (take end input) table judged-so (drop end input)) ∙ sym same)
+        (rw lent-is at q)

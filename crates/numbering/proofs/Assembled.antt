@@ -2,7 +2,7 @@
 -- references, and no number passes how many there are; pairs that are put, read back and put again in order
 -- leave only the last words. Assumes nothing.
 use Prim.Native.Nat.{ℕ, zero, suc, min, _+_, _*_, _≤_, _<_}
-use mathlib.Core.Path.{_≡_, refl, sym, ap, _∙_}
+use mathlib.Core.Path.{_≡_, refl, ap, _∙_}
 use mathlib.Core.Bool.{Bool, true, false}
 use mathlib.Core.List.{List, [], _∷_}
 use native.Mathlib.Omega.{arith}
@@ -22,10 +22,11 @@ use Rattle.graphs.proofs.Walking.{Within, within-none, within-one, within-appen
 use Rattle.graphs.proofs.Walking.{distinct-below}
 use Rattle.links.specs.words.Columns.{at, flat}
 use Rattle.links.specs.code.Linked.{side-words, linked, target, on}
-use Rattle.walks.specs.code.Walked.{first, walked, numbers-from, numbers, laid, marks-by}
-use Rattle.pairing.specs.code.Renumbered.{renumbered}
+use Rattle.walks.specs.code.Walked.{first, walked, numbers-from, numbers, Nodes-numbered, with-numbers, by-order}
+use Rattle.walks.specs.code.Walked.{nodes-numbered}
+use Rattle.pairing.specs.code.Renumbered.{renumbered, Pairs-put, with-count, pairs-put}
 use Rattle.sorting.specs.code.Sorted.{sorted}
-use Rattle.numbering.specs.code.Numbered.{order-by, arcs-by, meetings-by, labels-out, track-out}
+use Rattle.numbering.specs.code.Numbered.{order-by, arcs-by, meetings-by, with-counts, graph-numbered}
 use Rattle.links.proofs.Listed.{put-long, flat-length, pairs-length, pairs-back}
 use Rattle.pairing.proofs.Renumbering.{renumbered-length, renumbered-below}
 use Rattle.sorting.proofs.Ordering.{sorted-length}
@@ -104,78 +105,85 @@ sets-over w b (u ∷ us) (v ∷ vs) e =
     ∙ ap (λ (l : List ℕ). sets l (suc b) us) (set-set w b u v))
     ∙ sets-over (set w b v) (suc b) us vs (omega arith)
 
+-- words that pairs are put to keep their length
+pub puts-long : (base : ℕ) (to : List ℕ) (ps : List Pair) (kept : ℕ) (to′ : List ℕ) → length to ≡ track-words
+    → with-count kept to′ ≡ pairs-put to base ps → length to′ ≡ track-words
+puts-long base to ps kept to′ long e = put-long base to to′ ps long (ap (λ (q : Pairs-put). q .track) e)
+
 -- pairs by their numbers below n are put, sorted, and counted
 abbrev Puts : ℕ → ℕ → ℕ → Bool → List ℕ → List ℕ → List ℕ → ℕ → List ℕ → Type 0
 Puts n base count either g ns to kept to′ =
-    (kept ≡ length (sorted n (renumbered either ns (pairs base g 0 count))))
-    × (to′ ≡ sets to base (flat (sorted n (renumbered either ns (pairs base g 0 count)))))
+    with-count kept to′ ≡ pairs-put to base (sorted n (renumbered either ns (pairs base g 0 count)))
 
 -- so they are where they are put first and sorted then
 module _ (n base count : ℕ) (either : Bool) (g ns to₀ to : List ℕ) (kept : ℕ) (most : (i : ℕ) → at ns i ≤ n)
     (fits : base + 2 * count ≤ track-words) (long : length to₀ ≡ track-words)
-    (puts : (kept ≡ length (renumbered either ns (pairs base g 0 count)))
-    × (to ≡ sets to₀ base (flat (renumbered either ns (pairs base g 0 count))))) where
+    (puts : with-count kept to ≡ pairs-put to₀ base (renumbered either ns (pairs base g 0 count))) where
   abbrev ps : List Pair
   ps = renumbered either ns (pairs base g 0 count)
+
+  -- they are counted, and stand in their words
+  counted : kept ≡ length ps
+  counted = ap (λ (q : Pairs-put). q .count) puts
+
+  stand : to ≡ sets to₀ base (flat ps)
+  stand = ap (λ (q : Pairs-put). q .track) puts
 
   low : every (ends-below n) ps ≡ true
   low = renumbered-below n either ns most (pairs base g 0 count)
 
   kept-most : kept ≤ count
   kept-most =
-      omega (arith, puts .0, renumbered-length either ns (pairs base g 0 count), pairs-length base g 0 count)
+      omega (arith, counted, renumbered-length either ns (pairs base g 0 count), pairs-length base g 0 count)
 
   -- they are read back
   read : pairs base to 0 kept ≡ ps
-  read = rw (puts .1, puts .0) (pairs-back base to₀ ps long (omega (arith, puts .0, kept-most)))
+  read = rw (stand, counted) (pairs-back base to₀ ps long (omega (arith, counted, kept-most)))
 
   -- what sorting asks of them
   pub kept-fits : (kept ≤ count) × (length to ≡ track-words) × (every (ends-below n) (pairs base to 0 kept) ≡ true)
-  kept-fits = (kept-most, put-long base to₀ to ps long (puts .1), rw read low)
+  kept-fits = (kept-most, puts-long base to₀ ps kept to long puts, rw read low)
 
   -- and what it leaves
   pub kept-sorted : (to′ : List ℕ) → to′ ≡ sets to base (flat (sorted n (pairs base to 0 kept)))
       → Puts n base count either g ns to₀ kept to′
   kept-sorted to′ e =
-      let same = sorted-length n ps low in (
-        puts .0 ∙ sym same,
-        e
-            ∙ rw (read, puts .1)
-            (sets-over to₀ base (flat ps) (flat (sorted n ps))
-            (omega (arith, flat-length ps, flat-length (sorted n ps), same))),
-      )
+      let same = sorted-length n ps low in
+      let over = sets-over to₀ base (flat ps) (flat (sorted n ps))
+      (omega (arith, flat-length ps, flat-length (sorted n ps), same)) in
+      rw (e, read, stand, over, counted, same)
 
 -- the walk has numbered the nodes: there are no more of them than references
-module _ (ms w : List ℕ) (nodes : ℕ) (count : nodes ≡ length (walked ms w)) where
+module _ (ms w : List ℕ) (nodes : ℕ) (ns ls : List ℕ) (given : with-numbers nodes ns ls ≡ nodes-numbered ms w) where
   pub nodes-most : nodes ≤ reference-room
-  nodes-most = omega (arith, count, walked-most ms w)
+  nodes-most = omega (arith, ap (λ (q : Nodes-numbered). q .count) given, walked-most ms w)
 
   -- and no number passes how many there are
-  module _ (ns : List ℕ) (given : ns ≡ numbers (walked ms w)) where
-    pub nodes-above : (i : ℕ) → at ns i ≤ nodes
-    nodes-above i = rw (count, given) (numbers-most (walked ms w) i)
+  pub nodes-above : (i : ℕ) → at ns i ≤ nodes
+  nodes-above i =
+      rw (ap (λ (q : Nodes-numbered). q .count) given, ap (λ (q : Nodes-numbered). q .numbers) given)
+      (numbers-most (walked ms w) i)
 
-    -- with the arcs linked before, and arcs and meetings put behind, this is the graph by its numbers
-    pub assembled : (ks xs g : List ℕ) (a s c d m k : ℕ) (ls to to′ : List ℕ)
-        → ls ≡ laid (marks-by ms (walked ms w))
-        → w ≡ linked ms ks xs (replicate side-words 0) (pairs 0 g 0 (min a arc-room))
-        → c ≡ min a arc-room → Puts nodes 0 c false g ns (replicate track-words 0) m to
-        → d ≡ min s meeting-room → Puts nodes meetings-from d true g ns to k to′
-        → ((nodes ≡ length (order-by ms ks xs g a s)) × (m ≡ length (arcs-by ms ks xs g a s))
-        × (k ≡ length (meetings-by ms ks xs g a s)))
-        × ((ls ≡ labels-out ms ks xs g a s) × (to′ ≡ track-out ms ks xs g a s))
-    unfolding order-by arcs-by meetings-by labels-out track-out
-    assembled ks xs g a s c d m k ls to to′ marks links c-is arcs d-is meetings =
-        let order : walked ms w ≡ order-by ms ks xs g a s = ap (walked ms) links in
-        let count-is = count ∙ ap length order in
-        let given-is = given ∙ ap numbers order in
-        let arcs-are : sorted nodes (renumbered false ns (pairs 0 g 0 c)) ≡ arcs-by ms ks xs g a s =
-        rw (count-is, given-is, c-is) in
-        let meetings-are : sorted nodes (renumbered true ns (pairs meetings-from g 0 d)) ≡ meetings-by ms ks xs g a s =
-        rw (count-is, given-is, d-is) in (
-          (count-is, arcs .0 ∙ ap length arcs-are, meetings .0 ∙ ap length meetings-are),
-          (
-            marks ∙ ap (λ o. laid (marks-by ms o)) order,
-            meetings .1 ∙ rw (arcs .1, arcs-are, meetings-are),
-          ),
-        )
+  -- with the arcs linked before, and arcs and meetings put behind, this is the graph by its numbers
+  pub assembled : (ks xs g : List ℕ) (a s c d m k : ℕ) (to to′ : List ℕ)
+      → w ≡ linked ms ks xs (replicate side-words 0) (pairs 0 g 0 (min a arc-room))
+      → c ≡ min a arc-room → Puts nodes 0 c false g ns (replicate track-words 0) m to
+      → d ≡ min s meeting-room → Puts nodes meetings-from d true g ns to k to′
+      → with-counts (record { nodes = nodes; arcs = m; meetings = k }) ls to′ ≡ graph-numbered ms ks xs g a s
+  unfolding order-by arcs-by meetings-by graph-numbered
+  assembled ks xs g a s c d m k to to′ links c-is arcs d-is meetings =
+      let order : with-numbers nodes ns ls ≡ by-order ms (order-by ms ks xs g a s) = rw (← links) given in
+      let count-is = ap (λ (q : Nodes-numbered). q .count) order in
+      let numbers-are = ap (λ (q : Nodes-numbered). q .numbers) order in
+      let arcs-put : with-count m to ≡ pairs-put (replicate track-words 0) 0 (arcs-by ms ks xs g a s) =
+      rw (← count-is, ← numbers-are, ← c-is) arcs in
+      let meetings-put : with-count k to′ ≡ pairs-put to meetings-from (meetings-by ms ks xs g a s) =
+      rw (← count-is, ← numbers-are, ← d-is) meetings in
+      rw (
+        ap (λ (q : Pairs-put). q .count) arcs-put,
+        ap (λ (q : Pairs-put). q .count) meetings-put,
+        ap (λ (q : Pairs-put). q .track) meetings-put,
+        ap (λ (q : Pairs-put). q .track) arcs-put,
+        ap (λ (q : Nodes-numbered). q .labels) order,
+        count-is,
+      )

@@ -20,10 +20,9 @@ use walks::walk;
 ghost use mathlib.Core.Path.{_≡_};
 ghost use Prim.Native.Nat.{ℕ, _+_, _*_, _≤_};
 ghost use lib.ListN.{length, replicate};
-ghost use lib.Seq.{sets};
 ghost use Rattle.control.specs.words.Views.{pairs};
-ghost use Rattle.links.specs.words.Columns.{at, flat};
-ghost use Rattle.pairing.specs.code.Renumbered.{renumbered};
+ghost use Rattle.links.specs.words.Columns.{at};
+ghost use Rattle.pairing.specs.code.Renumbered.{renumbered, with-count, pairs-put};
 ghost use Rattle.sorting.specs.code.Sorted.{sorted};
 ghost use Rattle.numbering.specs.code.Numbered as of;
 ghost use Rattle.rules.specs.Run.{arc-room};
@@ -46,16 +45,9 @@ pub fn number(
     numbers: &mut Column,
     spare: &mut Track,
 ) -> GraphCounts
-    ensures { λ r. ⌜ (r .nodes ≡ length (of.order-by (now (marks .entry)) (now (kinds .entry)) (now (after .entry))
-        (now (track .entry)) arcs meetings))
-        × (r .arcs ≡ length (of.arcs-by (now (marks .entry)) (now (kinds .entry)) (now (after .entry))
-        (now (track .entry)) arcs meetings))
-        × (r .meetings ≡ length (of.meetings-by (now (marks .entry)) (now (kinds .entry)) (now (after .entry))
-        (now (track .entry)) arcs meetings)) ⌝ }
-    ensures { λ _. ⌜ now (labels .exit) ≡ of.labels-out (now (marks .entry)) (now (kinds .entry)) (now (after .entry))
-        (now (track .entry)) arcs meetings ⌝ }
-    ensures { λ _. ⌜ now (graph .exit) ≡ of.track-out (now (marks .entry)) (now (kinds .entry)) (now (after .entry))
-        (now (track .entry)) arcs meetings ⌝ }
+    ensures { λ r. ⌜ of.with-counts r (now (labels .exit)) (now (graph .exit))
+        ≡ of.graph-numbered (now (marks .entry)) (now (kinds .entry)) (now (after .entry)) (now (track .entry))
+        arcs meetings ⌝ }
     ensures { λ _. ⌜ now (sides .exit) ≡ replicate side-words 0 ⌝ }
     ensures { λ _. ⌜ now (pending .exit) ≡ replicate side-words 0 ⌝ }
     ensures { λ _. ⌜ now (numbers .exit) ≡ replicate reference-room 0 ⌝ }
@@ -113,10 +105,8 @@ fn number_pairs(
     requires { ⌜ (nodes ≤ reference-room) × (count ≤ arc-room) × (base + 2 * count ≤ track-words) ⌝ }
     requires { ⌜ (length (now graph) ≡ track-words) × (length (now spare) ≡ track-words) ⌝ }
     requires { ⌜ ((n : ℕ) → at (now numbers) n ≤ nodes) ⌝ }
-    ensures { λ r. ⌜ r ≡ length (sorted nodes
+    ensures { λ r. ⌜ with-count r (now (graph .exit)) ≡ pairs-put (now (graph .entry)) base (sorted nodes
         (renumbered either (now (numbers .entry)) (pairs base (now (track .entry)) 0 count))) ⌝ }
-    ensures { λ _. ⌜ now (graph .exit) ≡ sets (now (graph .entry)) base (flat (sorted nodes
-        (renumbered either (now (numbers .entry)) (pairs base (now (track .entry)) 0 count)))) ⌝ }
     ensures { λ _. ⌜ length (now (spare .exit)) ≡ track-words ⌝ }
     ensures { λ _. ⌜ now (starts .exit) ≡ replicate side-words 0 ⌝ }
 {

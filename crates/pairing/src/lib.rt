@@ -23,9 +23,8 @@ pub fn renumber(
     to: &mut Track,
 ) -> usize
     requires { ⌜ base + 2 * count ≤ track-words ⌝ }
-    ensures { λ r. ⌜ r ≡ length (of.renumbered either (now (numbers .entry)) (pairs base (now (track .entry)) 0 count)) ⌝ }
-    ensures { λ _. ⌜ now (to .exit) ≡ sets (now (to .entry)) base
-        (flat (of.renumbered either (now (numbers .entry)) (pairs base (now (track .entry)) 0 count))) ⌝ }
+    ensures { λ r. ⌜ of.with-count r (now (to .exit)) ≡ of.pairs-put (now (to .entry)) base
+        (of.renumbered either (now (numbers .entry)) (pairs base (now (track .entry)) 0 count)) ⌝ }
 {
     let mut kept: usize = 0;
     let mut i: usize = 0;

@@ -29,7 +29,7 @@ use Rattle.node_lines.specs.code.Nodes.{nodes-read}
 use Rattle.node_lines.proofs.Laws.{labelled, nodes-lead}
 use Rattle.pair_lines.specs.code.Pairs.{pairs-read}
 use Rattle.pair_lines.proofs.Laws.{due-of, with-pairs, pairs-lead}
-use Rattle.reading.specs.code.Outcome.{Held, answer, failed, stopped}
+use Rattle.reading.specs.code.Outcome.{Held, failed, stopped}
 use Rattle.reading.specs.declared.Read.{Read}
 use Rattle.reading.specs.declared.Read.the-variants.{Accepted, Refused}
 
@@ -130,13 +130,12 @@ module _ (text : List ℕ) (d : ℕ) {n a s next : ℕ} (c : Counted text n a s 
 module _ (text : List ℕ) (d : ℕ) (ks xs rs : List ℕ) where
   -- the answer is the text's, and the columns hold what it says
   abbrev pub Done : List ℕ → List ℕ → Read → Type 0
-  Done ls gs r = (r ≡ answer (parsed d text)) × Held ks xs rs (parsed d text) ls gs
+  Done ls gs r = Held ks xs rs (parsed d text) r ls gs
 
   -- a refusal
   refused-done : (ls gs : List ℕ) {k l : ℕ} {r : Read} → parsed d text ≡ refused k l → r ≡ Refused k l → Done ls gs r
-  unfolding answer Held
-  refused-done ls gs p e =
-      (e ∙ sym (ap answer p), subst (λ (q : Judged Graph). Held ks xs rs q ls gs) (sym p) tt)
+  unfolding Held
+  refused-done ls gs {r = r} p e = subst (λ (q : Judged Graph). Held ks xs rs q r ls gs) (sym p) e
 
   pub stopped-done : (ls gs : List ℕ) (on : ℕ → Judged Graph) {u t : Lines} → parsed d text ≡ onward on u → t ≡ u
       → {k l : ℕ} {r : Read} → t ≡ Stops k l → r ≡ stopped t → Done ls gs r
@@ -160,20 +159,16 @@ module _ (text : List ℕ) (d : ℕ) (ks xs rs : List ℕ) where
       → arcs-in ≡ sets none 0 (flat (arcs-read n a text m .said)) → none ≡ replicate track-words 0
       → gs ≡ sets arcs-in meetings-from (flat (meetings-read n a s text m₂ .said))
       → Done ls gs (Accepted (record { nodes = n; arcs = a; meetings = s }))
-  unfolding answer Held
+  unfolding Held
   all-done {n} {a} {s} {next} {m} {m₂} c p₁ g₁ p₂ g₂ p₃ g₃ p₄ g₄ {ls = ls} {gs = gs} labels-in z arcs-in w all-in =
       let p = goes-on _ (at-last text d c p₁ g₁ p₂ g₂ p₃ g₃) (sym p₄ ∙ g₄) in
-      let counted = as-counted text d c p₁ g₁ p₂ g₂ p₃ g₃ in (
-        rw (p, counted .0, counted .1, counted .2),
-        subst (λ (q : Judged Graph). Held ks xs rs q ls gs) (sym p) (
-          labels-in ∙ ap (λ (u : List ℕ). sets u 0 (marks-of ks xs rs 0 (nodes-read d n text next .said))) z,
-          all-in
-              ∙ ap (λ (u : List ℕ). sets u meetings-from (flat (meetings-read n a s text m₂ .said)))
-              (arcs-in ∙ ap (λ (u : List ℕ). sets u 0 (flat (arcs-read n a text m .said))) w),
-          (
-            omega (arith, counted .0, c .nodes-fit),
-            omega (arith, counted .1, c .arcs-fit),
-            omega (arith, counted .2, c .meetings-fit),
-          ),
+      let counted = as-counted text d c p₁ g₁ p₂ g₂ p₃ g₃ in
+      subst (λ (q : Judged Graph). Held ks xs rs q (Accepted (record { nodes = n; arcs = a; meetings = s })) ls gs)
+      (sym p) (
+        rw (labels-in, z, all-in, arcs-in, w, counted .0, counted .1, counted .2),
+        (
+          omega (arith, counted .0, c .nodes-fit),
+          omega (arith, counted .1, c .arcs-fit),
+          omega (arith, counted .2, c .meetings-fit),
         ),
       )

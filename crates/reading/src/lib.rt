@@ -55,13 +55,9 @@ pub fn read_track(
     numbers: &mut Column,
     walked: &mut Column,
 ) -> Read
-    ensures { λ r. ⌜ r ≡ of.answer (of.outcome (now (kinds .entry)) (now (payloads .entry)) (now (after .entry))
-        (now (roots .entry)) definitions (now (text .entry))) ⌝ }
-    ensures { λ _. ⌜ now (labels .exit) ≡ of.labels-left (now (kinds .entry)) (now (payloads .entry))
-        (now (after .entry)) (now (roots .entry)) (of.outcome (now (kinds .entry)) (now (payloads .entry))
-        (now (after .entry)) (now (roots .entry)) definitions (now (text .entry))) (now (labels .entry)) ⌝ }
-    ensures { λ _. ⌜ now (graph .exit) ≡ of.graph-left (of.outcome (now (kinds .entry)) (now (payloads .entry))
-        (now (after .entry)) (now (roots .entry)) definitions (now (text .entry))) (now (graph .entry)) ⌝ }
+    ensures { λ r. ⌜ of.with-graph r (now (labels .exit)) (now (graph .exit))
+        ≡ of.track-read (now (kinds .entry)) (now (payloads .entry)) (now (after .entry)) (now (roots .entry))
+        definitions (now (text .entry)) (now (labels .entry)) (now (graph .entry)) ⌝ }
     ensures { λ r. ⌜ Reads definitions (read-columns (now (kinds .entry)) (now (payloads .entry)) (now (after .entry))
         (now (roots .entry))) (now (text .entry)) (now (labels .entry)) (now (graph .entry))
         r (now (labels .exit)) (now (graph .exit)) ⌝ }
@@ -126,11 +122,9 @@ fn judge(
     numbers: &mut Column,
     walked: &mut Column,
 ) -> Read
-    ensures { λ r. ⌜ r ≡ of.answer (of.outcome (now (kinds .entry)) (now (payloads .entry)) (now (after .entry))
-        (now (roots .entry)) definitions (now (text .entry))) ⌝ }
-    ensures { λ _. ⌜ of.Held (now (kinds .entry)) (now (after .entry)) (now (roots .entry))
+    ensures { λ r. ⌜ of.Held (now (kinds .entry)) (now (after .entry)) (now (roots .entry))
         (of.outcome (now (kinds .entry)) (now (payloads .entry)) (now (after .entry)) (now (roots .entry))
-        definitions (now (text .entry))) (now (labels .exit)) (now (graph .exit)) ⌝ }
+        definitions (now (text .entry))) r (now (labels .exit)) (now (graph .exit)) ⌝ }
     ensures { λ _. ⌜ now (sides .exit) ≡ replicate side-words 0 ⌝ }
     ensures { λ _. ⌜ now (pending .exit) ≡ replicate side-words 0 ⌝ }
     ensures { λ _. ⌜ now (numbers .exit) ≡ replicate reference-room 0 ⌝ }
@@ -177,9 +171,8 @@ fn read_lines(
     labels: &mut Column,
     graph: &mut Track,
 ) -> Read
-    ensures { λ r. ⌜ r ≡ of.answer (parsed definitions (now (text .entry))) ⌝ }
-    ensures { λ _. ⌜ of.Held (now (kinds .entry)) (now (after .entry)) (now (roots .entry))
-        (parsed definitions (now (text .entry))) (now (labels .exit)) (now (graph .exit)) ⌝ }
+    ensures { λ r. ⌜ of.Held (now (kinds .entry)) (now (after .entry)) (now (roots .entry))
+        (parsed definitions (now (text .entry))) r (now (labels .exit)) (now (graph .exit)) ⌝ }
 {
     *labels = [0u16; REFERENCES];
     *graph = [0u16; TRACK_WORDS];

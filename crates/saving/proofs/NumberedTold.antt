@@ -49,12 +49,12 @@ use Rattle.walks.proofs.LinkedWords.{marked, marked-inside}
 use Rattle.walks.proofs.LinkTold.{all-fit-told, walked-told}
 use Rattle.pairing.specs.code.Renumbered.{renumbered}
 use Rattle.sorting.specs.code.Sorted.{sorted}
-use Rattle.numbering.specs.code.Numbered.{arcs-in, meetings-in, order-by, arcs-by, meetings-by, labels-out}
-use Rattle.numbering.specs.code.Numbered.{track-out}
+use Rattle.numbering.specs.code.Numbered.{arcs-in, meetings-in, order-by, arcs-by, meetings-by, graph-numbered}
 use Rattle.links.proofs.Listed.{pairs-length, arcs-back, meetings-back}
 use Rattle.pairing.proofs.Renumbering.{renumbered-below}
 use Rattle.sorting.proofs.Ordering.{sorted-joins, sorted-ascends}
 use Rattle.framing.specs.words.Told.{place-by, labels-told, graph-told}
+use Rattle.saving.specs.code.Saving.{numbered-told}
 use Rattle.saving.proofs.NumberLaws.{Numbers, numbers-told, numbers-most, way, renumbered-joins}
 use Rattle.saving.proofs.NumberLaws.{renumbered-times}
 
@@ -248,9 +248,9 @@ module _ (text : List ℕ) (s : Sofar) (q : judged text ≡ accepted s) (ms : Li
   few-nodes = distinct-below reference-room (order g) (order-distinct g) inside
 
   -- so the labels by the numbers are the canonical ones
-  labels-are : labels-told places (labels-out ms (kinds s) (afters s) t a m) 0
+  labels-are : labels-told places (graph-numbered ms (kinds s) (afters s) t a m .labels) 0
       (min (length (order-by ms (kinds s) (afters s) t a m)) reference-room) ≡ canonical g .labels
-  unfolding labels-out canonical
+  unfolding graph-numbered canonical
   labels-are =
       let all : min (length (order g)) reference-room ≡ length (order g) = omega (arith, few-nodes) in
       ap (λ o. labels-told places (laid (marks-by ms o)) 0 (min (length o) reference-room)) order-told
@@ -265,14 +265,8 @@ module _ (text : List ℕ) (s : Sofar) (q : judged text ≡ accepted s) (ms : Li
   -- the graph that the numbered columns tell is the canonical one
   pub graph-told-canonical : ((i j : ℕ) → between i j (g .arcs) ≤ 1)
       → ((i j : ℕ) → between i j (g .meetings) + between j i (g .meetings) ≤ 1)
-      → graph-told places (labels-out ms (kinds s) (afters s) t a m) (track-out ms (kinds s) (afters s) t a m)
-      (record {
-        nodes = length (order-by ms (kinds s) (afters s) t a m);
-        arcs = length (arcs-by ms (kinds s) (afters s) t a m);
-        meetings = length (meetings-by ms (kinds s) (afters s) t a m);
-      })
-      ≡ canonical g
-  unfolding graph-told track-out
+      → numbered-told places (graph-numbered ms (kinds s) (afters s) t a m) ≡ canonical g
+  unfolding graph-told graph-numbered
   graph-told-canonical few few-met =
       let arcs = arcs-told few in
       let meetings = meetings-told few-met in

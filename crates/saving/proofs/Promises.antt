@@ -3,10 +3,9 @@
 use Prim.Native.Nat.{ℕ}
 use mathlib.Core.Path.{_≡_, ap, _∙_}
 use mathlib.Core.List.{List}
-use lib.ListN.{length}
 use Rattle.columns.specs.words.Columns.{columns}
 use Rattle.runs.specs.words.Held.{lent}
-use Rattle.writing.specs.words.Slice.{answer, left}
+use Rattle.writing.specs.words.Slice.{with-slice, written}
 use Rattle.writing.specs.declared.Saved.{Saved}
 use Rattle.saving.specs.code.Saving.{text-of}
 use Rattle.saving.specs.words.Kept.{Saves}
@@ -14,8 +13,7 @@ use Rattle.saving.proofs.SavedTold.{saves-told}
 
 -- an answer and a slice that are those of the words' text
 pub saves : (ks os xs rs w g c : List ℕ) (r : Saved) (slice slice′ : List ℕ)
-    → r ≡ answer (text-of ks os xs rs w g c) (length slice) → slice′ ≡ left (text-of ks os xs rs w g c) slice
+    → with-slice r slice′ ≡ written (text-of ks os xs rs w g c) slice
     → Saves (columns ks os xs rs) (lent w g c) slice r slice′
-saves ks os xs rs w g c r slice slice′ e f text ps p x t s table h =
-    let same = saves-told text ks ps os xs rs t table p x w g c s h in
-    (e ∙ ap (λ l. answer l (length slice)) same, f ∙ ap (λ l. left l slice) same)
+saves ks os xs rs w g c r slice slice′ e text ps p x t s table h =
+    e ∙ ap (λ l. written l slice) (saves-told text ks ps os xs rs t table p x w g c s h)

@@ -41,7 +41,7 @@ use Rattle.links.specs.words.Columns.{at}
 use Rattle.walks.proofs.Telling.{Telling, mark-told}
 use Rattle.walks.proofs.LinkTold.{every-member}
 use Rattle.saving.specs.code.Saving.{marks-from, marks, text-of}
-use Rattle.columns.specs.words.Columns.{all-columns}
+use Rattle.columns.specs.words.Columns.{Columns, all-columns}
 use Rattle.tables.specs.words.Columns.{Table-of}
 use Rattle.saving.proofs.MarkLaws.{marks-length}
 use Rattle.saving.proofs.NumberedTold.{laid-told, graph-told-canonical}
@@ -147,5 +147,5 @@ pub saves-told : (text ks ps os xs rs : List ℕ) (t : Sofar) → Table-of text 
     → (p x w g c : List ℕ) (s : State) → Holds (layout t) p x (definitions-of t) w g c s
     → text-of ks os xs rs w g c ≡ saved (graph-of s)
 saves-told text ks ps os xs rs t table p x w g c s h =
-    rw (table .kinds-are, table .owners-are, table .after-are, table .roots-are)
-    (words-saved text t (table .checked) p x w g c s h)
+    ap (λ (q : Columns). text-of (q .kinds) (q .owners) (q .after) (q .roots) w g c) (table .columns-are)
+    ∙ words-saved text t (table .checked) p x w g c s h

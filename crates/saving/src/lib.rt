@@ -22,9 +22,9 @@ use writing::Saved;
 use writing::write;
 ghost use mathlib.Core.Path.{_≡_};
 ghost use Prim.Native.Nat.{_≤_};
-ghost use lib.ListN.{length, replicate};
+ghost use lib.ListN.{replicate};
 ghost use Rattle.walks.specs.code.Walked.{laid};
-ghost use Rattle.writing.specs.words.Slice.{answer, left};
+ghost use Rattle.writing.specs.words.Slice.{with-slice, written};
 ghost use Rattle.saving.specs.code.Saving as of;
 ghost use Rattle.columns.specs.words.Columns.{columns};
 ghost use Rattle.runs.specs.words.Held.{lent};
@@ -52,10 +52,7 @@ pub fn save(
     spare: &mut Track,
     text: &mut [u8],
 ) -> Saved
-    ensures { λ r. ⌜ r ≡ answer (of.text-of (now (kinds .entry)) (now (owners .entry)) (now (after .entry))
-        (now (roots .entry)) (now (nodes .entry)) (now (track .entry)) (now (counters .entry)))
-        (length (now (text .entry))) ⌝ }
-    ensures { λ _. ⌜ now (text .exit) ≡ left (of.text-of (now (kinds .entry)) (now (owners .entry))
+    ensures { λ r. ⌜ with-slice r (now (text .exit)) ≡ written (of.text-of (now (kinds .entry)) (now (owners .entry))
         (now (after .entry)) (now (roots .entry)) (now (nodes .entry)) (now (track .entry)) (now (counters .entry)))
         (now (text .entry)) ⌝ }
     ensures { λ _. ⌜ now (labels .exit) ≡ replicate reference-room 0 ⌝ }

@@ -19,7 +19,7 @@ use Rattle.graphs.specs.Graph.{Graph}
 use Rattle.graphs.specs.Shape.{every, ascends, from-on}
 use Rattle.links.specs.words.Columns.{at}
 use Rattle.links.specs.code.Linked.{side-words, linked}
-use Rattle.walks.specs.code.Walked.{walked, numbers, laid}
+use Rattle.walks.specs.code.Walked.{walked, numbers, laid, Nodes-numbered, with-numbers, nodes-numbered}
 use Rattle.walks.proofs.LinkedWords.{marked, marked-inside}
 use Rattle.shape_rules.specs.code.Tests.{all-marked, meetings-fit}
 use Rattle.shape_rules.proofs.RuleTests.{and-where}
@@ -69,14 +69,15 @@ module _ (ks ps xs ms w : List ℕ) (n c d : ℕ) where
   pub rules-tested : {m : Bool} → m ≡ all-marked ms n
       → {k : ℕ} → k ≡ min c arc-room → {a : Bool} → a ≡ ascends (arcs-of w k)
       → {f : Bool} {ss : List ℕ} → (f ≡ sides-fit ks xs ms arcs) × (ss ≡ sides)
-      → {count : ℕ} → count ≡ length (walked ms ss) → {ns : List ℕ} → ns ≡ numbers (walked ms ss)
+      → {count : ℕ} {ns ls : List ℕ} → with-numbers count ns ls ≡ nodes-numbered ms ss
       → {o : Bool} → o ≡ Ordered ns n
       → {l : ℕ} → l ≡ min d meeting-room → {b : Bool} → b ≡ ascends (meetings-of w l)
       → {j : Bool} → j ≡ meetings-fit ps ms (meetings-of w l)
       → ((((((m && a) && f) && eqb count n) && o) && b) && j) ≡ has-shape ks ps xs ms w n c d
-  rules-tested m k a link count ns o l b j =
-      rules-same m (rw k at a) (link .0) (ap (λ (i : ℕ). eqb i n) (rw (link .1) at count)) (rw (ns, link .1) at o)
-      (rw l at b) (rw l at j)
+  rules-tested m k a link given o l b j =
+      let numbered = rw (link .1) at given in
+      rules-same m (rw k at a) (link .0) (ap (λ (q : Nodes-numbered). eqb (q .count) n) numbered)
+      (o ∙ ap (λ (q : Nodes-numbered). Ordered (q .numbers) n) numbered) (rw l at b) (rw l at j)
       ∙ walk-tested
 
 -- words laid in front of a column stand there

@@ -18,7 +18,7 @@ use Rattle.tables.specs.Table.{table-lines}
 use Rattle.tables.specs.words.Columns.{answer}
 use Rattle.refusals.specs.code.Said.{said}
 use Rattle.filling.specs.code.Taking.{Ready, seen-then, waiting-then, roots-then, column-then}
-use Rattle.tables.specs.words.Filled.{begins, Filled}
+use Rattle.tables.specs.words.Filled.{begins, Filled, Fills}
 use Rattle.frames.specs.declared.Frame.{Frame}
 use Rattle.frames.specs.declared.Seen.{Seen}
 use Rattle.refusals.specs.declared.Said.{Said}
@@ -115,8 +115,7 @@ module _ {text : List ℕ} {from d ev : ℕ} {k₀ p₀ o₀ r₀ k p o r w : Li
 
   -- the answer is the whole's, and the columns are filled where that is accepted
   abbrev Done : Checked → Type 0
-  Done x = (x ≡ answer (whole text from d ev))
-      × ((t : Sofar) → whole text from d ev ≡ accepted t → Filled t k p o r k₀ p₀ o₀ r₀)
+  Done x = Fills (whole text from d ev) x k p o r k₀ p₀ o₀ r₀
 
   pub going-stops : (n : ℕ) → Stops n ≡ told s → Done (Refused n line)
   unfolding answer

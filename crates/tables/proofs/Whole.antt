@@ -17,7 +17,9 @@ use Rattle.lines.proofs.Judging.{ends-early, no-line-fails, line-fails, line-ta
 use Rattle.frames.specs.TableFrame.{frame-of, first-refusal}
 use Rattle.tables.specs.Table.{Item, Sofar, taken, unopened, at-start, within, whole-at, number-met}
 use Rattle.tables.specs.Table.{stage-behind, table-lines, judged, text-room}
-use Rattle.tables.specs.words.Columns.{column, kinds, payloads, owners, roots, afters, left, answer}
+use Rattle.columns.specs.words.Columns.{Columns, all-columns}
+use Rattle.tables.specs.words.Columns.{column, kinds, payloads, owners, roots, afters, columns-of, table-counts}
+use Rattle.tables.specs.words.Columns.{answer, with-columns, outcome}
 use Rattle.filling.specs.words.Preorder.{walked}
 use Rattle.refusals.specs.code.Said.{opens, opened-by, opened, failure}
 use Rattle.tables.specs.words.Filled.{begins, Filled}
@@ -142,16 +144,27 @@ pub answer-accepts : (j : Judged Sofar) (c : TableCounts) → answer j ≡ Accep
     → (s : Sofar) × (j ≡ accepted s) × (c .terms ≡ length (s .terms))
 unfolding answer
 answer-accepts (accepted s) c e =
-    let is : c ≡ record { definitions = s .definitions; events = s .events; terms = length (s .terms) } = cc in
+    let is : c ≡ table-counts s = cc in
     (s, refl, ap (λ (x : TableCounts). x .terms) is)
 answer-accepts (refused m k) c e = let z : _≡_ {A = ℕ} 0 1 = cc in absurd (omega arith)
 
+-- what an outcome says of it
+pub outcome-refuses : (c : Columns) (j : Judged Sofar) (n l : ℕ) → outcome c j .answer ≡ Refused n l → j ≡ refused n l
+unfolding outcome
+outcome-refuses c (accepted s) n l e = answer-refuses (accepted s) n l e
+outcome-refuses c (refused m k) n l e = answer-refuses (refused m k) n l e
+
+pub outcome-accepts : (c : Columns) (j : Judged Sofar) (n : TableCounts) → outcome c j .answer ≡ Accepted n
+    → (s : Sofar) × (j ≡ accepted s) × (n ≡ table-counts s) × (outcome c j .columns ≡ columns-of s)
+unfolding answer outcome
+outcome-accepts c (accepted s) n e = (s, refl, cc, refl)
+outcome-accepts c (refused m k) n e = let z : _≡_ {A = ℕ} 0 1 = cc in absurd (omega arith)
+
 -- a refusal leaves the columns as they were
-pub refuses : (t : List ℕ) (n l : ℕ) (k p o a r : List ℕ) → judged t ≡ refused n l
-    → (Refused n l ≡ answer (judged t)) × ((k ≡ left kinds (judged t) k) × ((p ≡ left payloads (judged t) p)
-    × ((o ≡ left owners (judged t) o) × ((a ≡ left afters (judged t) a) × (r ≡ left roots (judged t) r)))))
-unfolding answer left
-refuses t n l k p o a r e = rw e (refl, (refl, (refl, (refl, (refl, refl)))))
+pub refuses : (t : List ℕ) (x : Checked) (n l : ℕ) (c : Columns) → x ≡ Refused n l → judged t ≡ refused n l
+    → with-columns x c ≡ outcome c (judged t)
+unfolding answer outcome
+refuses t x n l c told e = rw (told, e)
 
 -- zeros with some numbers stored in front are those numbers' column
 drop-zeros : (k n : ℕ) → drop {A = ℕ} k (replicate n 0) ≡ replicate (n - k) 0
@@ -173,19 +186,18 @@ zeros-column n vs h =
     (ap (λ (m : ℕ). drop m (replicate n 0)) (zero-add (length vs)) ∙ drop-zeros (length vs) n)
 
 -- an accepted table fills them
-pub accepts : (t : List ℕ) (s : Sofar) (x : Checked) (k p o a r k₀ p₀ o₀ a₀ r₀ : List ℕ)
+pub accepts : (t : List ℕ) (s : Sofar) (x : Checked) (k p o a r : List ℕ) (c : Columns)
     → judged t ≡ accepted s → x ≡ answer (judged t)
     → Filled s k p o r (replicate 1024 0) (replicate 1024 0) (replicate 1024 0) (replicate 64 0) → (n : ℕ)
     → n ≡ length (s .terms) → a ≡ walked n k (replicate 1024 0)
-    → (x ≡ answer (judged t)) × ((k ≡ left kinds (judged t) k₀) × ((p ≡ left payloads (judged t) p₀)
-    × ((o ≡ left owners (judged t) o₀) × ((a ≡ left afters (judged t) a₀) × (r ≡ left roots (judged t) r₀)))))
-unfolding left kinds payloads owners afters roots
-accepts t s x k p o a r k₀ p₀ o₀ a₀ r₀ e q f m c w =
+    → with-columns x (all-columns k p o a r) ≡ outcome c (judged t)
+unfolding outcome kinds payloads owners afters roots
+accepts t s x k p o a r c e q f m terms w =
     let n : (of : Item → ℕ) → length (map of (s .terms)) ≤ 1024 =
     λ of. rw (length-map (s .terms) of) (f .terms-fit) in
     let ks : k ≡ kinds s = f .kinds-are ∙ zeros-column 1024 _ (n (λ (i : Item). i .kind)) in
     let ps : p ≡ payloads s = f .payloads-are ∙ zeros-column 1024 _ (n (λ (i : Item). i .payload)) in
     let os : o ≡ owners s = f .owners-are ∙ zeros-column 1024 _ (n (λ (i : Item). i .definition)) in
-    let fs : a ≡ afters s = w ∙ ap₂ (λ (j : ℕ) (l : List ℕ). walked j l (replicate 1024 0)) c ks in
+    let fs : a ≡ afters s = w ∙ ap₂ (λ (j : ℕ) (l : List ℕ). walked j l (replicate 1024 0)) terms ks in
     let rs : r ≡ roots s = f .roots-are ∙ zeros-column 64 _ (f .roots-fit) in
-    (q, (rw e ks, (rw e ps, (rw e os, (rw e fs, rw e rs)))))
+    rw (q, e, ks, ps, os, fs, rs)

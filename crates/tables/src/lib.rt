@@ -28,12 +28,12 @@ ghost use mathlib.Core.Path.{_≡_};
 ghost use Prim.Native.Nat.{_≤_};
 ghost use lib.ListN.{drop};
 ghost use Rattle.lines.specs.Line.{lines};
-ghost use Rattle.lines.specs.Judging.{accepted, judged-from};
+ghost use Rattle.lines.specs.Judging.{judged-from};
 ghost use Rattle.tables.specs.Table as table;
 ghost use Rattle.tables.specs.Table.{Sofar, judged, seen, table-lines, within};
-ghost use Rattle.tables.specs.words.Columns as columns;
-ghost use Rattle.tables.specs.words.Columns.{answer, left};
-ghost use Rattle.tables.specs.words.Filled.{begins, Filled};
+ghost use Rattle.columns.specs.words.Columns.{all-columns};
+ghost use Rattle.tables.specs.words.Columns.{answer, with-columns, outcome};
+ghost use Rattle.tables.specs.words.Filled.{begins, Fills};
 
 // The room of a table's text.
 pub const TABLE_TEXT_ROOM: usize = 32768;
@@ -62,17 +62,10 @@ pub fn check(
     after: &mut After,
     roots: &mut Roots,
 ) -> Checked
-    ensures { λ r. ⌜ r ≡ answer (judged (now (text .entry))) ⌝ }
-    ensures { λ _. ⌜ now (kinds .exit)
-        ≡ left columns.kinds (judged (now (text .entry))) (now (kinds .entry)) ⌝ }
-    ensures { λ _. ⌜ now (payloads .exit)
-        ≡ left columns.payloads (judged (now (text .entry))) (now (payloads .entry)) ⌝ }
-    ensures { λ _. ⌜ now (owners .exit)
-        ≡ left columns.owners (judged (now (text .entry))) (now (owners .entry)) ⌝ }
-    ensures { λ _. ⌜ now (after .exit)
-        ≡ left columns.afters (judged (now (text .entry))) (now (after .entry)) ⌝ }
-    ensures { λ _. ⌜ now (roots .exit)
-        ≡ left columns.roots (judged (now (text .entry))) (now (roots .entry)) ⌝ }
+    ensures { λ r. ⌜ with-columns r (all-columns (now (kinds .exit)) (now (payloads .exit)) (now (owners .exit))
+        (now (after .exit)) (now (roots .exit)))
+        ≡ outcome (all-columns (now (kinds .entry)) (now (payloads .entry)) (now (owners .entry))
+        (now (after .entry)) (now (roots .entry))) (judged (now (text .entry))) ⌝ }
 {
     if TABLE_TEXT_ROOM < text.len() {
         return Checked::Refused {
@@ -131,14 +124,10 @@ fn body(
     roots: &mut Roots,
 ) -> Checked
     requires { ⌜ definitions ≤ 64 ⌝ }
-    ensures { λ r. ⌜ r
-        ≡ answer (judged-from table-lines (within (begins definitions events)) 2
-        (lines (drop from (now (text .entry))))) ⌝ }
-    ensures { λ _. ⌜ ((s : Sofar)
-        → judged-from table-lines (within (begins definitions events)) 2 (lines (drop from (now (text .entry))))
-        ≡ accepted s
-        → Filled s (now (kinds .exit)) (now (payloads .exit)) (now (owners .exit)) (now (roots .exit))
-        (now (kinds .entry)) (now (payloads .entry)) (now (owners .entry)) (now (roots .entry))) ⌝ }
+    ensures { λ r. ⌜ Fills
+        (judged-from table-lines (within (begins definitions events)) 2 (lines (drop from (now (text .entry)))))
+        r (now (kinds .exit)) (now (payloads .exit)) (now (owners .exit)) (now (roots .exit))
+        (now (kinds .entry)) (now (payloads .entry)) (now (owners .entry)) (now (roots .entry)) ⌝ }
 {
     let mut waiting = [0u8; LEVEL_ROOM];
     let mut s = Seen {

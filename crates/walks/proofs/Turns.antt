@@ -22,7 +22,8 @@ use Rattle.graphs.proofs.Walking.{Distinct, Within, among-first, distinct-more,
 use Rattle.graphs.proofs.Walking.{within-rest, within-none, within-one, walk-over}
 use Rattle.links.specs.words.Columns.{at}
 use Rattle.links.specs.code.Linked.{side-words, target, on}
-use Rattle.walks.specs.code.Walked.{first, walked, numbers-from, numbers, laid, marks-by}
+use Rattle.walks.specs.code.Walked.{first, walked, numbers-from, numbers, laid, marks-by, with-numbers}
+use Rattle.walks.specs.code.Walked.{nodes-numbered}
 use Rattle.walks.proofs.Numbering.{unnumbered, has-number, next-number, next-label}
 
 -- a reference of a graph, and several
@@ -148,12 +149,11 @@ module _ (ms w ns ls ps : List ℕ) (top count : ℕ) (u : Underway ms w ns ls p
   pending-most = omega (arith, u .enough, u .most, counted-most)
 
   -- with nothing pending, what is numbered is the walk
-  pub walk-done : top ≡ 0 → (count ≡ length (walked ms w)) × (ns ≡ numbers (walked ms w))
-      × (ls ≡ laid (marks-by ms (walked ms w)))
+  pub walk-done : top ≡ 0 → with-numbers count ns ls ≡ nodes-numbered ms w
   unfolding stacked
   walk-done h =
       let done : u .seen ≡ walked ms w = sym (walk-over (on w) (u .turns) (u .seen) .0) ∙ (rw h at (u .whole)) in
-      rw (← done) (sym (u .counted), u .numbers-are, u .labels-are)
+      rw (← done, ← u .counted, u .numbers-are, u .labels-are)
 
   module _ (n : ℕ) (pending : top ≡ 0 → ⊥) (next : n ≡ getD ps (top - 1) 0) where
     -- the next one is a reference

@@ -25,10 +25,8 @@ pub fn walk(
     labels: &mut Column,
     pending: &mut SideWords,
 ) -> usize
-    ensures { λ r. ⌜ r ≡ length (of.walked (now (marks .entry)) (now (sides .entry))) ⌝ }
-    ensures { λ _. ⌜ now (numbers .exit) ≡ of.numbers (of.walked (now (marks .entry)) (now (sides .entry))) ⌝ }
-    ensures { λ _. ⌜ now (labels .exit)
-        ≡ of.laid (of.marks-by (now (marks .entry)) (of.walked (now (marks .entry)) (now (sides .entry)))) ⌝ }
+    ensures { λ r. ⌜ of.with-numbers r (now (numbers .exit)) (now (labels .exit))
+        ≡ of.nodes-numbered (now (marks .entry)) (now (sides .entry)) ⌝ }
     ensures { λ _. ⌜ now (pending .exit) ≡ replicate side-words 0 ⌝ }
 {
     *numbers = [0u16; REFERENCES];

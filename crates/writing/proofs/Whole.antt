@@ -3,11 +3,10 @@
 -- written, and else it is the length alone. Assumes nothing.
 use Prim.Native.Nat.{ℕ, _+_, _*_, _≤_, _<_, min}
 use mathlib.Core.Path.{_≡_, ap, _∙_}
-use mathlib.Core.Bool.{true, false}
 use mathlib.Core.List.{List, [], _∷_, _++_, map}
 use native.Mathlib.Omega.{arith}
 use lib.ListN.{length}
-use lib.Dec.{leb}
+use lib.Seq.{sets}
 use borrow.Author.Tests.{le-leb, lt-leb}
 use Rattle.lines.specs.Line.{two, text}
 use Rattle.spelling.specs.words.Puts.{Puts}
@@ -24,7 +23,7 @@ use Rattle.graphs.proofs.Spelled.{nodes-length, text-length}
 use Rattle.links.specs.declared.GraphCounts.{GraphCounts}
 use Rattle.writing.specs.declared.Saved.the-variants.{Written, Short}
 use Rattle.framing.specs.words.Told.{labels-told, graph-told}
-use Rattle.writing.specs.words.Slice.{answer, left}
+use Rattle.writing.specs.words.Slice.{with-slice, written}
 use Rattle.framing.proofs.Spelt.{pairs-count, nodes-count}
 
 -- the text of a graph, a part behind another
@@ -77,18 +76,22 @@ module _ (c : Columns) (ms g : List ℕ) (counts : GraphCounts) {n a m : ℕ} (n
       )
       (puts-then (puts-then (puts-then (puts-then p q) r) o) l)
 
+-- what writing comes to, by whether the slice has room for the text
+module _ (t slice : List ℕ) where
+  pub written-whole : length t ≤ length slice → written t slice ≡ with-slice (Written (length t)) (sets slice 0 t)
+  unfolding written
+  written-whole h = rw (le-leb (length t) (length slice) h)
+
+  pub written-short : length slice < length t → written t slice ≡ with-slice (Short (length t)) slice
+  unfolding written
+  written-short h = rw (lt-leb (length t) (length slice) h)
+
 module _ (t slice : List ℕ) (size : ℕ) (sized : size ≡ length t) where
   -- a text that fits is written
   pub fits : {after : List ℕ} {end : ℕ} → size ≤ length slice → Puts 0 t slice after end
-      → (Written size ≡ answer t (length slice)) × (after ≡ left t slice)
-  unfolding answer left
-  fits h p =
-      let test : leb (length t) (length slice) ≡ true = le-leb (length t) (length slice) (omega arith) in
-      (simp test (ap Written sized), simp test (p .stands))
+      → with-slice (Written size) after ≡ written t slice
+  fits h p = rw (written-whole t slice (omega arith), sized, p .stands)
 
   -- one that does not leaves the slice as it was
-  pub falls-short : length slice < size → (Short size ≡ answer t (length slice)) × (slice ≡ left t slice)
-  unfolding answer left
-  falls-short h =
-      let test : leb (length t) (length slice) ≡ false = lt-leb (length t) (length slice) (omega arith) in
-      (simp test (ap Short sized), simp test)
+  pub falls-short : length slice < size → with-slice (Short size) slice ≡ written t slice
+  falls-short h = rw (written-short t slice (omega arith), sized)

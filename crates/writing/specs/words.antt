@@ -1,2 +1,2 @@
--- Layouts of words and invariants: `Slice`, the answer for a text and a slice.
+-- Layouts of words and invariants: `Slice`, what a text and a slice come to.
 pub mod Slice

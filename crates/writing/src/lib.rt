@@ -21,11 +21,10 @@ use links::at_most;
 use rules::ARC_ROOM;
 use rules::MEETING_ROOM;
 ghost use mathlib.Core.Path.{_≡_};
-ghost use lib.ListN.{length};
 ghost use Rattle.columns.specs.words.Columns.{columns};
 ghost use Rattle.graphs.specs.Saved.{graph-text};
 ghost use Rattle.framing.specs.words.Told.{graph-told};
-ghost use Rattle.writing.specs.words.Slice.{answer, left, refusal};
+ghost use Rattle.writing.specs.words.Slice.{with-slice, written, refusal};
 
 // Bytes of the first and the last line, and of an arc's or a meeting's.
 const FRAME_LINES: usize = 20;
@@ -50,10 +49,7 @@ pub fn write(
     roots: &Roots,
     text: &mut [u8],
 ) -> Saved
-    ensures { λ r. ⌜ r ≡ answer (graph-text (graph-told
-        (columns (now (kinds .entry)) (now (owners .entry)) (now (after .entry)) (now (roots .entry)))
-        (now (labels .entry)) (now (graph .entry)) counts)) (length (now (text .entry))) ⌝ }
-    ensures { λ _. ⌜ now (text .exit) ≡ left (graph-text (graph-told
+    ensures { λ r. ⌜ with-slice r (now (text .exit)) ≡ written (graph-text (graph-told
         (columns (now (kinds .entry)) (now (owners .entry)) (now (after .entry)) (now (roots .entry)))
         (now (labels .entry)) (now (graph .entry)) counts)) (now (text .entry)) ⌝ }
 {

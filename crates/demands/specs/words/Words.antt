@@ -19,7 +19,7 @@ use Rattle.graphs.specs.Graph.{Graph}
 use Rattle.graphs.specs.Saved.{graph-text}
 use Rattle.links.specs.declared.GraphCounts.{GraphCounts}
 use Rattle.framing.specs.words.Told.{graph-told}
-use Rattle.writing.specs.words.Slice.{answer, left}
+use Rattle.writing.specs.words.Slice.{with-slice, written}
 use Rattle.writing.specs.declared.Saved.{Saved}
 use Rattle.saving.specs.words.Kept.{Saves}
 
@@ -47,7 +47,7 @@ SavesWords ks os xs rs v slice r slice′ = Saves (columns ks os xs rs) v slice 
 
 -- an outcome that writing a graph in columns may have
 abbrev pub Writes : Graph → List ℕ → Saved → List ℕ → Type 0
-Writes g slice r slice′ = (r ≡ answer (graph-text g) (length slice)) × (slice′ ≡ left (graph-text g) slice)
+Writes g slice r slice′ = with-slice r slice′ ≡ written (graph-text g) slice
 
 -- the graph that columns tell, with the places of a table's columns
 abbrev pub told-by : List ℕ → List ℕ → List ℕ → List ℕ → List ℕ → List ℕ → GraphCounts → Graph

@@ -49,7 +49,7 @@ returns c =
     let known = told .before .before .before in
     let judged = known .before .before in
     let ends = judged .before .before .before .before .before .before .before in
-    refused-listed _ _ (ends .table-end .ensures) _ _ _ (judged .check .ensures .0) (known .checked .given .1)
+    refused-listed _ _ (ends .table-end .ensures) _ (judged .check .ensures) _ _ (known .checked .given .1)
     (told .put-refusal .ensures)
 
 same-length-2 : tie.Need-same-length-2
@@ -61,8 +61,7 @@ returns-2 c =
     let known = told .before .before .before .before .before .before .before .before .before in
     let judged = known .before .before in
     let ends = judged .before .before .before .before .before .before .before in
-    accepted-listed _ _ (ends .table-end .ensures) _ _ _ _ _ _ _ (judged .check .ensures)
-    (known .checked2 .given .1)
+    accepted-listed _ _ (ends .table-end .ensures) _ (judged .check .ensures) _ (known .checked2 .given .1)
     (told .list-script .ensures)
 
 pub list-spec : {M : Type 1} → statement M

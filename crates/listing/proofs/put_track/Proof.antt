@@ -33,8 +33,7 @@ put-copy-requires c κs =
     let room = saving .before .before .before .before .before .before .before .before .before in
     let entry = room .before .before in
     let fits =
-    track-fits _ _ (saving .save .ensures .1 .0) (saving .save .ensures .0) (room .save-room .ensures)
-    (told .saved .given .1) in
+    track-fits _ _ (saving .save .ensures .0) (room .save-room .ensures) (told .saved .given .1) in
     (fits .0, entry .pre, fits .1)
 
 same-length : tie.Need-same-length
@@ -58,8 +57,8 @@ returns-2 c =
     let told = copied .before .before .before .before in
     let saving = told .before .before .before in
     let room = saving .before .before .before .before .before .before .before .before .before in
-    track-whole _ _ (saving .save .ensures .1 .0) (saving .save .ensures .0) (room .save-room .ensures)
-    (told .saved .given .1) (copied .put-copy .ensures)
+    track-whole _ _ (saving .save .ensures .0) (room .save-room .ensures) (told .saved .given .1)
+    (copied .put-copy .ensures)
 
 pub put-track-spec : {M : Type 1} → statement M
 put-track-spec =

@@ -6,9 +6,8 @@ use mathlib.Core.Path.{refl}
 use native.Mathlib.Omega.{arith}
 use lib.ListN.{replicate, length-replicate}
 use borrow.Author.Needs.{needs}
-use Rattle.links.proofs.Listed.{put-long}
 use Rattle.control.specs.words.Words.{track-words}
-use Rattle.numbering.proofs.Assembled.{nodes-most, nodes-above, assembled}
+use Rattle.numbering.proofs.Assembled.{puts-long, nodes-most, nodes-above, assembled}
 use Rattle.numbering.proofs.number.Statement.{statement}
 use Rattle.numbering.proofs.number.Tie as tie
 
@@ -24,11 +23,11 @@ at-most-requires c κs = search needs
 number-pairs-requires : tie.Need-number-pairs-requires
 number-pairs-requires c κs =
     let counted = c .before .before .before .before in
-    let numbered = counted .before .before .before .walk .ensures in
-    let nodes = nodes-most _ _ _ (numbered .0) in
+    let numbered = counted .before .before .before .walk .ensures .0 in
+    let nodes = nodes-most _ _ _ _ _ numbered in
     let blank = length-replicate {A = ℕ} track-words 0 in (
       (omega (arith, nodes), omega (arith, counted .at-most .ensures), omega (arith, counted .at-most .ensures)),
-      ((blank, blank), nodes-above _ _ _ (numbered .0) _ (numbered .1 .0)),
+      ((blank, blank), nodes-above _ _ _ _ _ numbered),
     )
 
 at-most-requires-2 : tie.Need-at-most-requires-2
@@ -38,13 +37,13 @@ number-pairs-requires-2 : tie.Need-number-pairs-requires-2
 number-pairs-requires-2 c κs =
     let counted = c .before .before .before .before in
     let arcs = counted .before .number-pairs .ensures in
-    let numbered = counted .before .before .before .before .before .before .before .before .before .walk .ensures in
-    let nodes = nodes-most _ _ _ (numbered .0) in
+    let numbered = counted .before .before .before .before .before .before .before .before .before .walk .ensures .0 in
+    let nodes = nodes-most _ _ _ _ _ numbered in
     let blank = length-replicate {A = ℕ} track-words 0 in (
       (omega (arith, nodes), omega (arith, counted .at-most2 .ensures), omega (arith, counted .at-most2 .ensures)),
       (
-        (put-long 0 (replicate track-words 0) _ _ blank (arcs .1 .0), arcs .1 .1 .0),
-        nodes-above _ _ _ (numbered .0) _ (numbered .1 .0),
+        (puts-long 0 (replicate track-words 0) _ _ _ blank (arcs .0), arcs .1 .0),
+        nodes-above _ _ _ _ _ numbered,
       ),
     )
 
@@ -54,14 +53,10 @@ returns c =
     let arcs = meetings .before .before .before .before .before .before in
     let walked = arcs .before .before .before .before .before .before .before .before in
     let linked = walked .before .before .before .before .before in
-    let done = assembled _ _ _ (walked .walk .ensures .0) _ (walked .walk .ensures .1 .0) _ _ _ _ _ _ _ _ _ _ _ _
-    (walked .walk .ensures .1 .1 .0) (linked .link .ensures .1)
-    (arcs .before .before .before .before .before .at-most .ensures)
-    (arcs .number-pairs .ensures .0, arcs .number-pairs .ensures .1 .0)
-    (meetings .before .before .before .before .before .at-most2 .ensures)
-    (meetings .number-pairs2 .ensures .0, meetings .number-pairs2 .ensures .1 .0) in
-    let pending-clear = meetings .number-pairs2 .ensures .1 .1 .1 in
-    (done .0, (done .1 .0, (done .1 .1, (refl, (pending-clear, (refl, refl))))))
+    let done = assembled _ _ _ _ _ (walked .walk .ensures .0) _ _ _ _ _ _ _ _ _ _ _ (linked .link .ensures .1)
+    (arcs .before .before .before .before .before .at-most .ensures) (arcs .number-pairs .ensures .0)
+    (meetings .before .before .before .before .before .at-most2 .ensures) (meetings .number-pairs2 .ensures .0) in
+    (done, (refl, (meetings .number-pairs2 .ensures .1 .1, (refl, refl))))
 
 pub number-spec : {M : Type 1} → statement M
 number-spec =

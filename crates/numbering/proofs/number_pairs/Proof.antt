@@ -25,7 +25,7 @@ returns c =
     let ordered = kept-sorted _ _ _ _ _ _ _ _ _ (s .pre .1 .1) (s .pre .0 .2) (s .pre .1 .0 .0)
     (put .renumber .ensures) _ (c .sort .ensures .0) in
     let spare-long = put-long _ _ _ _ (s .pre .1 .0 .1) (c .sort .ensures .1 .0) in
-    (ordered .0, (ordered .1, (spare-long, c .sort .ensures .1 .1)))
+    (ordered, (spare-long, c .sort .ensures .1 .1))
 
 pub number-pairs-spec : {M : Type 1} → statement M
 number-pairs-spec = tie.close (tie.spec renumber-requires sort-requires returns)

@@ -78,7 +78,7 @@ returns : tie.Need-returns Inv-loop μ-loop
 returns c =
     let l = c .before .loop in
     let all : c .before .before .args .count ≡ l .i = omega arith in
-    rw all (l .inv .2, l .inv .3)
+    rw (all, l .inv .2, l .inv .3)
 
 pub renumber-spec : {M : Type 1} → statement M
 renumber-spec =

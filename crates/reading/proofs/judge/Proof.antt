@@ -18,8 +18,8 @@ enum-told c = search needs
 returns : tie.Need-returns
 returns c =
     let told = c .before .before .before .before in
-    let judged = lines-refused _ _ _ _ _ _ _ (told .before .before .read-lines .ensures .0) (told .enum-told .given .1) in
-    (judged .0, (judged .1, (refl, (refl, (refl, refl)))))
+    let judged = lines-refused _ _ _ _ _ _ _ (told .before .before .read-lines .ensures) (told .enum-told .given .1) in
+    (judged, (refl, (refl, (refl, refl))))
 
 has-shape-requires : tie.Need-has-shape-requires
 has-shape-requires c κs = search needs
@@ -29,18 +29,18 @@ returns-2 c =
     let accepted = c .before .before .before .before .before .before .before .before .before in
     let lines = accepted .before .before .read-lines .ensures in
     let shape = c .before .has-shape .ensures in
-    let judged = rules-decide _ _ _ _ _ _ _ (lines .0) (lines .1) (accepted .read .given .1) (shape .0)
+    let judged = rules-decide _ _ _ _ _ _ _ lines (accepted .read .given .1) (shape .0)
     (c .if1 .taken) in
-    (judged .0, (judged .1, shape .1))
+    (judged, shape .1)
 
 returns-3 : tie.Need-returns-3
 returns-3 c =
     let accepted = c .before .before .before .before .before .before .before .before .before in
     let lines = accepted .before .before .read-lines .ensures in
     let shape = c .before .has-shape .ensures in
-    let judged = rules-decide _ _ _ _ _ _ _ (lines .0) (lines .1) (accepted .read .given .1) (shape .0)
+    let judged = rules-decide _ _ _ _ _ _ _ lines (accepted .read .given .1) (shape .0)
     (c .if1 .left) in
-    (judged .0, (judged .1, shape .1))
+    (judged, shape .1)
 
 pub judge-spec : {M : Type 1} → statement M
 judge-spec =

@@ -34,27 +34,35 @@ module _ (ks ps xs rs : List ℕ) where
   abbrev pub outcome : ℕ → List ℕ → Judged Graph
   outcome d text = judged (parsed d text)
 
-  -- the columns afterwards: the marks by number, and arcs and meetings; or as they were
-  unfoldable pub labels-left : Judged Graph → List ℕ → List ℕ
-  labels-left (accepted g) old = laid (marks-of ks xs rs 0 (g .labels))
-  labels-left (refused n k) old = old
+-- an answer, with the marks by number and the words of arcs and meetings after it
+pub record Track-read : Type 0 where
+  pub answer : Read
+  pub labels : List ℕ
+  pub graph : List ℕ
 
-unfoldable pub graph-left : Judged Graph → List ℕ → List ℕ
-graph-left (accepted g) old = track-of g
-graph-left (refused n k) old = old
+abbrev pub with-graph : Read → List ℕ → List ℕ → Track-read
+with-graph r labels graph = record { answer = r; labels = labels; graph = graph }
 
--- columns that hold the graph that is said, which keeps to the rooms
 module _ (ks xs rs : List ℕ) where
-  unfoldable pub Held : Judged Graph → List ℕ → List ℕ → Type 0
-  Held (accepted g) labels graph =
-      (labels ≡ laid (marks-of ks xs rs 0 (g .labels))) × (graph ≡ track-of g)
-      × ((length (g .labels) ≤ node-room) × (length (g .arcs) ≤ arc-room) × (length (g .meetings) ≤ meeting-room))
-  Held (refused n k) labels graph = Unit {0}
+  -- an accepted graph: how many nodes, arcs and meetings, its marks by number, and its arcs and meetings
+  abbrev pub graph-read : Graph → Track-read
+  graph-read g = with-graph (Accepted (counts-of g)) (laid (marks-of ks xs rs 0 (g .labels))) (track-of g)
 
--- the answer: how many nodes, arcs and meetings; or the paper's number of the refusal and its line
-unfoldable pub answer : Judged Graph → Read
-answer (accepted g) = Accepted (counts-of g)
-answer (refused n k) = Refused n k
+  -- what a text comes to: its graph; or the paper's number of the refusal and its line, with the columns as they were
+  unfoldable pub by-outcome : Judged Graph → List ℕ → List ℕ → Track-read
+  by-outcome (accepted g) labels graph = graph-read g
+  by-outcome (refused n k) labels graph = with-graph (Refused n k) labels graph
+
+  -- an answer, with columns that hold the graph that is said, which keeps to the rooms
+  unfoldable pub Held : Judged Graph → Read → List ℕ → List ℕ → Type 0
+  Held (accepted g) r labels graph =
+      (with-graph r labels graph ≡ graph-read g)
+      × ((length (g .labels) ≤ node-room) × (length (g .arcs) ≤ arc-room) × (length (g .meetings) ≤ meeting-room))
+  Held (refused n k) r labels graph = r ≡ Refused n k
+
+-- what reading a text comes to, for a table of d definitions
+abbrev pub track-read : List ℕ → List ℕ → List ℕ → List ℕ → ℕ → List ℕ → List ℕ → List ℕ → Track-read
+track-read ks ps xs rs d text labels graph = by-outcome ks xs rs (outcome ks ps xs rs d text) labels graph
 
 -- the answer for line 1 that fails, and for a later line that stops the work
 unfoldable pub failed : TrackOpened → Read

@@ -7,7 +7,7 @@ use Rattle.tables.specs.Table.{Sofar}
 use Rattle.tables.specs.words.Columns.{Table-of}
 use Rattle.terms.specs.Term.{definitions-of}
 use Rattle.graphs.specs.Shape.{read}
-use Rattle.reading.specs.code.Outcome.{answer, labels-left, graph-left}
+use Rattle.reading.specs.code.Outcome.{with-graph, by-outcome}
 use Rattle.reading.specs.declared.Read.{Read}
 use Rattle.columns.specs.words.Columns.{Columns, with-owners}
 
@@ -16,6 +16,5 @@ use Rattle.columns.specs.words.Columns.{Columns, with-owners}
 abbrev pub Reads : ℕ → Columns → List ℕ → List ℕ → List ℕ → Read → List ℕ → List ℕ → Type 0
 Reads d c t labels graph r labels′ graph′ =
     (text os : List ℕ) (s : Sofar) → Table-of text (with-owners os c) s → d ≡ length (definitions-of s)
-    → (r ≡ answer (read (definitions-of s) t))
-    × (labels′ ≡ labels-left (c .kinds) (c .payloads) (c .after) (c .roots) (read (definitions-of s) t) labels)
-    × (graph′ ≡ graph-left (read (definitions-of s) t) graph)
+    → with-graph r labels′ graph′
+    ≡ by-outcome (c .kinds) (c .after) (c .roots) (read (definitions-of s) t) labels graph

@@ -46,23 +46,16 @@ returns c =
     let counted = numbered .before .before .before .before .before .before .before .before in
     let taken = counted .before .before .before .before in
     let lent = taken .before .before .before .before .before .before .args in
-    let scratch = numbered .number .ensures .1 .1 .1 in
+    let scratch = numbered .number .ensures .1 in
     let done = assembled (lent .kinds .now) (lent .owners .now) (lent .after .now) (lent .roots .now)
     (lent .nodes .now) (lent .track .now) (lent .counters .now) _ _ _ _ _ _ _ _
     (taken .before .before .before .wide .ensures) (taken .before .before .at-most .ensures)
     (taken .take-marks .ensures) (counted .before .before .wide2 .ensures) (counted .wide3 .ensures)
-    (numbered .number .ensures .0, (numbered .number .ensures .1 .0, numbered .number .ensures .1 .1 .0))
-    _ _ _ (written .write .ensures .0) (written .write .ensures .1) in (
-      done .0 .0,
+    (numbered .number .ensures .0) _ _ _ (written .write .ensures) in (
+      done .0,
       (
-        done .0 .1,
-        (
-          refl,
-          (
-            refl,
-            (refl, (scratch .0, (scratch .1 .0, (scratch .1 .1 .0, (scratch .1 .1 .1, done .1))))),
-          ),
-        ),
+        refl,
+        (refl, (refl, (scratch .0, (scratch .1 .0, (scratch .1 .1 .0, (scratch .1 .1 .1, done .1)))))),
       ),
     )
 

@@ -2,7 +2,6 @@
 use Prim.Native.Nat.{ℕ}
 use mathlib.Core.Path.{_≡_}
 use mathlib.Core.List.{List}
-use lib.ListN.{length}
 use Rattle.columns.specs.words.Columns.{Columns, with-payloads}
 use Rattle.tables.specs.Table.{Sofar}
 use Rattle.tables.specs.words.Columns.{Table-of}
@@ -12,7 +11,7 @@ use Rattle.plans.specs.words.Layout.{layout}
 use Rattle.runs.specs.words.Held.{Words, Holds}
 use Rattle.graphs.specs.Graph.{graph-of}
 use Rattle.graphs.specs.Saved.{saved}
-use Rattle.writing.specs.words.Slice.{answer, left}
+use Rattle.writing.specs.words.Slice.{with-slice, written}
 use Rattle.writing.specs.declared.Saved.{Saved}
 
 -- what saving owes a run of a checked table, whose payloads it does not look at: where the words hold it, the answer and the
@@ -21,4 +20,4 @@ abbrev pub Saves : Columns → Words → List ℕ → Saved → List ℕ → Typ
 Saves c v slice r slice′ =
     (text ps p x : List ℕ) (t : Sofar) (s : State) → Table-of text (with-payloads ps c) t
     → Holds (layout t) p x (definitions-of t) (v .nodes) (v .track) (v .counters) s
-    → (r ≡ answer (saved (graph-of s)) (length slice)) × (slice′ ≡ left (saved (graph-of s)) slice)
+    → with-slice r slice′ ≡ written (saved (graph-of s)) slice

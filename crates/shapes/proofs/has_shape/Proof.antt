@@ -44,10 +44,10 @@ returns c =
     let args = linked .before .before .args in (
       rules-tested (args .kinds .now) (args .payloads .now) (args .after .now) (args .labels .now) (args .graph .now)
           (args .nodes) (args .arcs) (args .meetings) (marks .all-marked .ensures)
-          (arcs .before .at-most2 .ensures) (arcs .ascend .ensures) (linked .link .ensures) (walked .walk .ensures .0) (walked .walk .ensures .1 .0)
+          (arcs .before .at-most2 .ensures) (arcs .ascend .ensures) (linked .link .ensures) (walked .walk .ensures .0)
           (ordered .in-order .ensures) (marks .before .at-most .ensures) (meetings .ascend2 .ensures)
           (c .join-events .ensures),
-      (refl, (walked .walk .ensures .1 .1 .1, (refl, refl))),
+      (refl, (walked .walk .ensures .1, (refl, refl))),
     )
 
 pub has-shape-spec : {M : Type 1} → statement M

@@ -10,7 +10,7 @@ use Rattle.tables.proofs.check.Statement.{statement}
 use Rattle.tables.proofs.check.Tie as tie
 
 returns : tie.Need-returns
-returns c = refuses _ _ _ _ _ _ _ _ (judged-over _ (c .if1 .taken))
+returns c = refuses _ _ _ _ _ refl (judged-over _ (c .if1 .taken))
 
 first-line-requires : tie.Need-first-line-requires
 first-line-requires c κs = search needs
@@ -29,7 +29,7 @@ returns-2 c =
     let first = c .before .before .before in
     let told = failure-is _ _ _ (c .before .enum-told .given .1) (c .failure-of .ensures) in
     let fails = table-fails _ _ (sym (first .first-line .ensures) ∙ told) in
-    refuses _ _ _ _ _ _ _ _ (judged-within _ (first .before .if1 .left) ∙ fails)
+    refuses _ _ _ _ _ refl (judged-within _ (first .before .if1 .left) ∙ fails)
 
 body-requires : tie.Need-body-requires
 body-requires c κs =
@@ -49,9 +49,8 @@ returns-3 c =
     let first = opens .before .before in
     let body = table-opens _ _ _ _ (sym (first .first-line .ensures) ∙ opens .first .given .1) .0 in
     let all = judged-within _ (first .before .if1 .left) ∙ body in
-    let told = judged .body .ensures .0 in
-    let over = answer-refuses _ _ _ (sym told ∙ c .enum-told2 .given .1) in
-    (told ∙ ap answer (sym all), refuses _ _ _ _ _ _ _ _ (all ∙ over) .1)
+    let told = c .enum-told2 .given .1 in
+    refuses _ _ _ _ _ told (all ∙ answer-refuses _ _ _ (sym (judged .body .ensures .0) ∙ told))
 
 walk-requires : tie.Need-walk-requires
 walk-requires c κs =
@@ -71,7 +70,7 @@ returns-4 c =
     let table = answer-accepts _ _ (sym (judged .0) ∙ good .checked .given .1) in
     let told = sym (good .checked .given .1) ∙ judged .0 ∙ ap answer (sym all) in
     let filled = judged .1 (table .0) (table .1) in
-    accepts _ (table .0) _ _ _ _ _ _ _ _ _ _ _ (all ∙ table .1) told filled _ (table .2) (c .walk .ensures)
+    accepts _ (table .0) _ _ _ _ _ _ _ (all ∙ table .1) told filled _ (table .2) (c .walk .ensures)
 
 pub check-spec : {M : Type 1} → statement M
 check-spec =

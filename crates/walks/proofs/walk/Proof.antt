@@ -113,8 +113,7 @@ walk-again c =
 
 returns : tie.Need-returns Inv-loop μ-loop Inv-walk μ-walk
 returns c =
-    let done = walk-done _ _ _ _ _ _ _ (c .before .before .loop .inv) (c .before .loop-test .taken) in
-    (done .0, (done .1, (done .2, refl)))
+    (walk-done _ _ _ _ _ _ _ (c .before .before .loop .inv) (c .before .loop-test .taken), refl)
 
 pub walk-spec : {M : Type 1} → statement M
 walk-spec =

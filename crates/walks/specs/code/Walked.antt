@@ -1,7 +1,7 @@
 -- The walk over a graph in columns, with the numbers that it gives.
 use Prim.Native.Nat.{ℕ, suc}
 use mathlib.Core.List.{List, [], _∷_, map}
-use lib.ListN.{set, replicate}
+use lib.ListN.{length, set, replicate}
 use lib.Seq.{sets}
 use lib.Dec.{eqb}
 use Rattle.lines.specs.Line.{choose}
@@ -33,3 +33,20 @@ laid xs = sets (replicate reference-room 0) 0 xs
 -- the marks in the order of the numbers
 abbrev pub marks-by : List ℕ → List ℕ → List ℕ
 marks-by ms o = map (at ms) o
+
+-- nodes with numbers: how many there are, one more than the number of each reference, and their marks by number
+pub record Nodes-numbered : Type 0 where
+  pub count : ℕ
+  pub numbers : List ℕ
+  pub labels : List ℕ
+
+abbrev pub with-numbers : ℕ → List ℕ → List ℕ → Nodes-numbered
+with-numbers n ns ls = record { count = n; numbers = ns; labels = ls }
+
+-- the nodes of an order, numbered by it
+abbrev pub by-order : List ℕ → List ℕ → Nodes-numbered
+by-order ms o = with-numbers (length o) (numbers o) (laid (marks-by ms o))
+
+-- what the walk over words of sides leaves
+abbrev pub nodes-numbered : List ℕ → List ℕ → Nodes-numbered
+nodes-numbered ms w = by-order ms (walked ms w)

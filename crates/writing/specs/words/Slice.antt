@@ -1,5 +1,4 @@
--- The graph that columns tell, whatever they hold, and what writing it comes to: the text of its frames in a lent slice, or
--- refusal 12 with the length that the text would have.
+-- What writing a text comes to: the text in a lent slice, or refusal 12 with the length that the text would have.
 use Prim.Native.Nat.{ℕ}
 use mathlib.Core.List.{List}
 use lib.ListN.{length}
@@ -9,13 +8,19 @@ use Rattle.lines.specs.Line.{choose}
 use Rattle.writing.specs.declared.Saved.{Saved}
 use Rattle.writing.specs.declared.Saved.the-variants.{Written, Short}
 
--- the answer for a text and a slice of so many bytes: its length; or refusal 12, with the length
-unfoldable pub answer : List ℕ → ℕ → Saved
-answer t room = choose (leb (length t) room) (Written (length t)) (Short (length t))
+-- an answer, with the slice after it
+pub record Put : Type 0 where
+  pub answer : Saved
+  pub slice : List ℕ
 
--- the slice afterwards: the text in front, or as it was
-unfoldable pub left : List ℕ → List ℕ → List ℕ
-left t slice = choose (leb (length t) (length slice)) (sets slice 0 t) slice
+abbrev pub with-slice : Saved → List ℕ → Put
+with-slice r slice = record { answer = r; slice = slice }
+
+-- a text and a slice: the text in front, with its length; or refusal 12 with the length, and the slice as it was
+unfoldable pub written : List ℕ → List ℕ → Put
+written t slice =
+    choose (leb (length t) (length slice)) (with-slice (Written (length t)) (sets slice 0 t))
+    (with-slice (Short (length t)) slice)
 
 -- the paper's number of each answer, 0 where it is no refusal
 unfoldable pub refusal : Saved → ℕ
