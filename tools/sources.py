@@ -33,7 +33,7 @@ RATTLE_SILENT = re.compile(r'//[^\n]*|b?"(?:\\.|[^"\\])*"|b\'(?:\\.|[^\'\\])\'')
 RATTLE_USE = re.compile(r"^(?P<public>pub )?use\s+(?P<path>[\w:]+)(?:\s+as\s+(?P<local>\w+))?;", re.MULTILINE)
 RATTLE_MOD = re.compile(r"^(?P<public>pub )?mod\s+(?P<name>\w+);", re.MULTILINE)
 RATTLE_ITEM = re.compile(
-    r"^(?P<public>pub\s+)?(?P<extern>extern\s+)?(?P<kind>fn|const|struct|enum|type|impl)\s+(?P<name>\w+)",
+    r"^(?P<public>pub\s+)?(?P<extern>extern\s+)?(?P<kind>fn|const|struct|enum|type|impl)(?:<[^<>]*>)?\s+(?P<name>\w+)",
     re.MULTILINE,
 )
 RATTLE_PATH = re.compile(r"(?<![\w.])(?P<path>[A-Za-z_]\w*(?:::[A-Za-z_]\w*)*)(?P<call>\()?")

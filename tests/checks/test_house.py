@@ -780,6 +780,27 @@ fn main() {
 }
 """), ["constant NONE", "function again", "wider helped"])
 
+    def test_methods_use_what_they_call_and_no_struct(self):
+        self.assertEqual(self.found("""\
+== a/src/lib.rt
+struct Pair<'a> {
+    of: &'a [u8],
+}
+
+fn main() {
+}
+
+impl<'a> Pair<'a> {
+    fn first(self) -> u8 {
+        taken(self.of)
+    }
+}
+
+fn taken(of: &[u8]) -> u8 {
+    of[0]
+}
+"""), ["type Pair"])
+
     def test_exported_for_nobody(self):
         self.assertEqual(self.found("""\
 == a/src/lib.rt

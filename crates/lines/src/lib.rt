@@ -44,8 +44,8 @@ pub enum Line {
     End,
 }
 
-// The next line of a text from a cursor.
-pub fn next_line(text: &[u8], at: usize) -> Line
+// The line finder: the next line of a text from a cursor.
+pub fn find_line(text: &[u8], at: usize) -> Line
     ensures { λ r. ⌜ r ≡ answer at (lines (drop at (now (text .entry)))) ⌝ }
 {
     if text.len() <= at {
@@ -69,7 +69,7 @@ pub fn next_line(text: &[u8], at: usize) -> Line
 }
 
 // The characters from `at` up to `end` as they stand in the text; none where there is no such part.
-pub fn characters(text: &[u8], at: usize, end: usize) -> &[u8]
+pub fn part_of(text: &[u8], at: usize, end: usize) -> &[u8]
     ensures { λ r. ⌜ now r ≡ part (now (text .entry)) at end ⌝ }
 {
     let n = text.len();

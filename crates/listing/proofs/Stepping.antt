@@ -122,7 +122,7 @@ module _ (p x w g c : List ℕ) (at : ℕ) where
   lines-stop n [] ds h = refl
   lines-stop n (l ∷ ls) ds h = stepped-first n l ls ds ∙ by-other n _ _ _ h
 
-  -- a step is a line, as the line finder has it
+  -- a step is a line, as the line reader has it
   step-found : (ls : List Raw) (ds : List ℕ) (e : Event) (next : ℕ) → first ls ds .played ≡ Stepped e next
       → (end : ℕ) × (Line.answer at ls ≡ Found end next)
   unfolding plays.played Script.answer Script.told plays.by-line Line.answer Line.seen asked

@@ -1,16 +1,16 @@
 // The lines of a saved track's nodes, read into a column: each line is judged as it comes, and a node's place becomes its mark.
-// It relies on the line finder and on the mark of a node's line.
+// It relies on the line reader and on the mark of a node's line.
 use columns::After;
 use columns::Kinds;
 use columns::Roots;
 use finding::mark_of;
 use frames::PATH_ROOM;
 use graphs::NODE_FRAME;
+use line_reader::characters;
+use line_reader::next_line;
 use lines::Line;
 use lines::OUT_OF_RANGE;
 use lines::WRONG_FRAME;
-use lines::characters;
-use lines::next_line;
 use lines::refusal_of;
 use links::Column;
 use numbers::byte;

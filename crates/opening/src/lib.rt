@@ -1,14 +1,14 @@
 // The first and the last line of a saved track: the counts of line 1, and that nothing stands behind the last. It relies on the
-// line finder, and on the bytes of a line.
+// line reader, and on the bytes of a line.
 use graphs::TRACK_EDITION;
 use graphs::TRACK_END_FRAME;
 use graphs::TRACK_FRAME;
+use line_reader::characters;
+use line_reader::next_line;
 use lines::Line;
 use lines::NO_LINE;
 use lines::OUT_OF_RANGE;
 use lines::WRONG_FRAME;
-use lines::characters;
-use lines::next_line;
 use lines::refusal_of;
 use numbers::byte;
 use numbers::number_at;

@@ -1,11 +1,11 @@
 // The lines of a saved track's pairs, its arcs or its meetings, read into the words of a track: each line is judged as it comes.
-// It relies on the line finder, and on the bytes of a line.
+// It relies on the line reader, and on the bytes of a line.
 use control::Track;
+use line_reader::characters;
+use line_reader::next_line;
 use lines::Line;
 use lines::OUT_OF_RANGE;
 use lines::WRONG_FRAME;
-use lines::characters;
-use lines::next_line;
 use lines::refusal_of;
 use numbers::byte;
 use numbers::number_at;

@@ -1,5 +1,5 @@
 // The lines of a table judged, each by what the lines before it have said: its frame, or the lowest number of refusal that it
-// meets. It relies on the line finder and on the frames.
+// meets. It relies on the line reader and on the frames.
 use frames::EVENT_ROOM;
 use frames::Frame;
 use frames::MOST_DEFINITIONS;
@@ -12,13 +12,13 @@ use frames::read_frame;
 use kinds::CALL;
 use kinds::PARALLEL;
 use kinds::PREFIX;
+use line_reader::characters;
+use line_reader::next_line;
 use lines::INCOMPLETE;
 use lines::Line;
 use lines::OUT_OF_RANGE;
 use lines::TERM_OVER_ROOM;
 use lines::WRONG_FRAME;
-use lines::characters;
-use lines::next_line;
 use lines::refusal_of;
 ghost use mathlib.Core.Path.{_≡_};
 ghost use Rattle.frames.specs.TableFrame as table;

@@ -12,7 +12,7 @@ use frames::DEFINITION_ROOM;
 use frames::TERM_ROOM;
 use inputs::STANDARD_OUTPUT;
 use inputs::table_end;
-use lines::characters;
+use lines::part_of;
 use links::Column;
 use links::GraphCounts;
 use links::SIDE_WORDS;
@@ -133,7 +133,7 @@ fn write_track(
     match saved {
         Saved::Short(_) => tell_refusal(12, 0),
         Saved::Written(length) => {
-            io::write_all(STANDARD_OUTPUT, characters(&text, 0, length));
+            io::write_all(STANDARD_OUTPUT, part_of(&text, 0, length));
         }
     }
 }

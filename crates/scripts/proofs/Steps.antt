@@ -1,4 +1,4 @@
--- The answer at a cursor by what the line finder and the judging say there: no line, a refused line, or a
+-- The answer at a cursor by what the line reader and the judging say there: no line, a refused line, or a
 -- line that asks for a step. A found line is the first of the script's lines, and its characters stand for
 -- the frame that is judged. Assumes nothing.
 use Prim.Native.Nat.{ℕ, _≤_, _-_, _/_}

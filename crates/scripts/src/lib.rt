@@ -1,11 +1,11 @@
 // A script's lines: each asks for a step by an address, whose digits go into a lent array.
-// It relies on the line finder for where a line ends and what its bytes are.
+// It relies on the line reader for where a line ends and what its bytes are.
+use line_reader::characters;
+use line_reader::next_line;
 use lines::Line;
 use lines::NO_LINE;
 use lines::OUT_OF_RANGE;
 use lines::WRONG_FRAME;
-use lines::characters;
-use lines::next_line;
 use numbers::byte;
 use numbers::number;
 ghost use mathlib.Core.Path.{_≡_};

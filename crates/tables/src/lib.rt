@@ -1,6 +1,6 @@
 // Tables of terms: a table's text is judged, and a good one becomes columns: for each term its kind, its
 // payload, the definition that it stands in and the term behind it, and for each definition its root. It
-// relies on the line finder for where a line ends and what its bytes are.
+// relies on the line reader for where a line ends and what its bytes are.
 use columns::After;
 use columns::Kinds;
 use columns::Owners;
@@ -13,11 +13,11 @@ use frames::DEFINITION_ROOM;
 use frames::Seen;
 use frames::TERM_ROOM;
 use frames::closes;
+use line_reader::next_line;
 use lines::Line;
 use lines::NO_LINE;
 use lines::TEXT_OVER_ROOM;
 use lines::WRONG_FRAME;
-use lines::next_line;
 use refusals::Said;
 use refusals::TableOpened;
 use refusals::failure_of;

@@ -3,7 +3,7 @@
 use inputs::STANDARD_INPUT;
 use inputs::STANDARD_OUTPUT;
 use inputs::input_room;
-use lines::characters;
+use lines::part_of;
 use listing::list;
 
 // No listing is longer.
@@ -14,7 +14,7 @@ fn main() {
     let count = io::read_full(STANDARD_INPUT, &mut input);
     let mut out = listing_room();
     let length = list(&input[..count], &mut out);
-    io::write_all(STANDARD_OUTPUT, characters(&out, 0, length));
+    io::write_all(STANDARD_OUTPUT, part_of(&out, 0, length));
 }
 
 fn listing_room() -> [u8; LISTING_ROOM] {

@@ -1,4 +1,4 @@
--- `opening::behind_last` meets its contract: each arm knows what the line finder answers. Assumes nothing.
+-- `opening::behind_last` meets its contract: each arm knows what the line reader answers. Assumes nothing.
 use mathlib.Core.Path.{sym, _∙_}
 use Rattle.opening.proofs.Turns.{behind-end, behind-no-line, behind-line}
 use borrow.Author.Needs.{needs}

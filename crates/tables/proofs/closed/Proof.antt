@@ -1,4 +1,4 @@
--- `tables::closed` meets its contract: each arm knows what the line finder answers behind the last line, and a
+-- `tables::closed` meets its contract: each arm knows what the line reader answers behind the last line, and a
 -- law of `Loop` says what is judged there. Assumes nothing.
 use mathlib.Core.Path.{sym, ap, _∙_}
 use Rattle.tables.specs.words.Columns.{answer}

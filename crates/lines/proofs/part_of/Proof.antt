@@ -1,9 +1,9 @@
--- `lines::characters` meets its contract: the tests tell whether the text has the part, and each `return`
+-- `lines::part_of` meets its contract: the tests tell whether the text has the part, and each `return`
 -- hands out the part or what stands behind the text's end, which is nothing. Assumes nothing.
 use Rattle.lines.proofs.Laws.{part-some, part-backward, part-past}
 use borrow.Author.Needs.{needs}
-use Rattle.lines.proofs.characters.Statement.{statement}
-use Rattle.lines.proofs.characters.Tie as tie
+use Rattle.lines.proofs.part_of.Statement.{statement}
+use Rattle.lines.proofs.part_of.Tie as tie
 
 sub-result : tie.Need-sub-result
 sub-result c = search needs
@@ -38,8 +38,8 @@ part-result-end-3 c = search needs
 returns-3 : tie.Need-returns-3
 returns-3 c = part-some _ _ _ (c .before .before .if1 .left) (c .before .if2 .left)
 
-pub characters-spec : {M : Type 1} → statement M
-characters-spec =
+pub part-of-spec : {M : Type 1} → statement M
+part-of-spec =
     tie.close
     (tie.spec
     sub-result

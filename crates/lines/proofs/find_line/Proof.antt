@@ -1,11 +1,11 @@
--- `lines::next_line` meets its contract: each `return` stands behind the tests that say what ends the run of
+-- `lines::find_line` meets its contract: each `return` stands behind the tests that say what ends the run of
 -- digits, and a law of `Laws` says what the first line then is. Assumes nothing.
 use mathlib.Core.Path.{sym}
 use Rattle.lines.proofs.Laws.{answer-end, answer-unended, answer-no-digit}
 use Rattle.lines.proofs.Laws.{answer-empty, answer-odd, answer-found}
 use borrow.Author.Needs.{needs}
-use Rattle.lines.proofs.next_line.Statement.{statement}
-use Rattle.lines.proofs.next_line.Tie as tie
+use Rattle.lines.proofs.find_line.Statement.{statement}
+use Rattle.lines.proofs.find_line.Tie as tie
 
 returns : tie.Need-returns
 returns c = sym (answer-end _ _ (c .if1 .taken))
@@ -58,8 +58,8 @@ returns-6 c =
     let feed = c .before .before .if3 .left in
     sym (answer-found _ _ _ inside run (at-end .if2 .left) feed (c .before .if4 .left) (c .if5 .left))
 
-pub next-line-spec : {M : Type 1} → statement M
-next-line-spec =
+pub find-line-spec : {M : Type 1} → statement M
+find-line-spec =
     tie.close
     (tie.spec
     returns
