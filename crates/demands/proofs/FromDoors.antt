@@ -23,9 +23,8 @@ use Rattle.plans.proofs.lay_out.Kinds as laying
 use Rattle.plans.proofs.lay_out.Reads as lay-out
 use Rattle.demands.specs.words.Laid.{Checked-and-laid}
 
--- a call of the check with its outcome
-module _ {κ : Lfts 6} {lent : Dens κ checking.ps} {c : Checked} {left : AtExit (endedOf 6 checking.ps checking.r) κ}
-    (checks : check.Learnt κ lent c left) where
+-- a call of the check: what it was lent, its answer, and what was lent as it is afterwards
+module _ (κ : Lfts 6) (lent : Dens κ checking.ps) (c : Checked) (left : AtExit (endedOf 6 checking.ps checking.r) κ) where
   -- the text that was judged, and the columns that the check has left
   abbrev text-judged : List ℕ
   text-judged = let (text, _) = lent in now text
@@ -35,10 +34,10 @@ module _ {κ : Lfts 6} {lent : Dens κ checking.ps} {c : Checked} {left : AtExit
       let (text, (kinds, (payloads, (owners, (after, (roots, _)))))) = left in
       all-columns (now kinds) (now payloads) (now owners) (now after) (now roots)
 
-  -- a call of the layout with its outcome
-  module _ {κ′ : Lfts 5} {lent′ : Dens κ′ laying.ps} {u : resT laying.r κ′ .Denot}
-      {left′ : AtExit (endedOf 5 laying.ps laying.r) κ′} (lays : lay-out.Learnt κ′ lent′ u left′) where
-    -- how many terms it was lent, their columns, and the plan that it has left
+  -- a call of the layout
+  module _ (κ′ : Lfts 5) (lent′ : Dens κ′ laying.ps) (u : resT laying.r κ′ .Denot)
+      (left′ : AtExit (endedOf 5 laying.ps laying.r) κ′) where
+    -- how many terms it was lent, with their columns, and the plan that it has left
     abbrev terms-lent : ℕ
     terms-lent = let (terms, _) = lent′ in terms
 
@@ -50,10 +49,12 @@ module _ {κ : Lfts 6} {lent : Dens κ checking.ps} {c : Checked} {left : AtExit
     abbrev plan-left : List ℕ
     plan-left = let (terms, (kinds, (payloads, (after, (roots, (plan, _)))))) = left′ in now plan
 
-    -- where the check has accepted the text, and the layout was lent what it has told and left
-    pub from-doors : (n : TableCounts) → c ≡ Accepted n → terms-lent ≡ n .terms
-        → columns-lent ≡ with-owners [] columns-left → Checked-and-laid text-judged columns-left plan-left n
-    from-doors n accepts same-terms same-columns =
+    -- where both doors have kept their promises, the check has accepted the text, and the layout was lent what the check has
+    -- told and left, a caller has the table
+    pub from-doors : check.Learnt κ lent c left → lay-out.Learnt κ′ lent′ u left′ → (n : TableCounts) → c ≡ Accepted n
+        → terms-lent ≡ n .terms → columns-lent ≡ with-owners [] columns-left
+        → Checked-and-laid text-judged columns-left plan-left n
+    from-doors checks lays n accepts same-terms same-columns =
         let told = sym (ap (λ (q : Outcome). q .answer) checks) ∙ accepts in
         let (t, is, counts, columns-are) = outcome-accepts _ (judged text-judged) n told in
         let columns-hold = ap (λ (q : Outcome). q .columns) checks ∙ columns-are in
