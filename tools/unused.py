@@ -4,7 +4,8 @@
 
 prints a line `KIND FILE:LINE NAME` for each. Status 1 where one is not of the last kind; with --list always 0.
 
-    law          a name of proofs/ that no other declaration, contract or document under docs/ names
+    law          a name of proofs/ that no other declaration, contract or document under docs/ names; but the laws of
+                 outcomes, one for every public function, are there for their own sake
     definition   a name of specs/ that no other declaration or contract names; constructors and fields apart
     function, constant, type     an item of src/ without a use outside itself
     use          a name of a `use` line that its file does not need
@@ -149,8 +150,11 @@ class Names:
         return self.within(f"{module}.{name}", path[1:]) if path[1:] else set()
 
     def kept(self, file, name):
-        """Whether a declaration is there for its own sake: a function's proof, or a law that documents name."""
+        """Whether a declaration is there for its own sake: a function's proof, the law of its outcome, or a law that
+        documents name."""
         if file.endswith("/Proof.antt") and name == file.split("/")[-2].replace("_", "-") + "-spec":
+            return True
+        if file.startswith("crates/outcomes/proofs/") and name.endswith("-settled"):
             return True
         return "/proofs/" in file and name in self.tree.documented
 

@@ -19,7 +19,6 @@ HEADINGS = ["frames", "rules", "saving", "programs"]
 HANDED_ABOUT = {"play": {"offering", "rules"}}  # an event in what a script's line comes to, and what is offered
 LOGIC_LIBRARIES = ("Prim", "mathlib", "lib")
 FRONT_PAGES = {"Lib.antt": "", "words.antt": "words/", "code.antt": "code/"}  # of specs/, and what each is of
-SETTLED = "crates/outcomes/proofs/Doors.antt"
 KINDS = {"": "meaning", "words": "words", "code": "code"}  # of definitions, by their folder below specs/
 
 
@@ -203,36 +202,31 @@ def names_crate(names, crate):
     return any(name == crate or name.startswith((f"{crate}::", f"{crate}/", f"crates/{crate}/")) for name in names)
 
 
-def unnamed_doors(root):
-    """Functions that other crates can call and docs/DOORS.md does not name."""
-    named = [named_in(statement) for statement in statements(sources.text_of(root, "docs/DOORS.md"))]
+def exported_functions(root):
+    """Functions that other crates can call, in order, each with its crate and where it stands."""
     tree = unused.Tree(root)
     for one in sorted(unused.Items(tree).exports()):
         file, name = one.target
-        if tree.rattle[file].items[name].kind != "fn":
-            continue
+        if tree.rattle[file].items[name].kind == "fn":
+            yield one
+
+
+def unnamed_doors(root):
+    """Functions that other crates can call and docs/DOORS.md does not name."""
+    named = [named_in(statement) for statement in statements(sources.text_of(root, "docs/DOORS.md"))]
+    for one in exported_functions(root):
         whole = f"{one.crate}::{one.name}"
         if not any(whole in names or one.name in names and names_crate(names, one.crate) for names in named):
             yield f"{whole} ({one.file}:{one.line})"
 
 
-def doors(text):
-    """The doors of docs/DOORS.md: what the first cells of the table of doors name, each with its crate."""
-    table = re.search(r"^\| door \|.*\n\|[-|]+\n((?:\|.*\n)*)", text, re.MULTILINE)
-    for row in table[1].splitlines() if table else ():
-        crate = None
-        for name in re.findall(r"`([^`]+)`", row.split("|")[1]):
-            crate, _, function = name.rpartition("::") if "::" in name else (crate, "", name)
-            yield crate, function
-
-
-def unsettled_doors(root):
-    """Doors of docs/DOORS.md of which no law says that their promise settles the outcome."""
-    laws = sources.text_of(root, SETTLED)
-    for crate, function in doors(sources.text_of(root, "docs/DOORS.md")):
-        law = f"{crate}-{function}-settled".replace("_", "-")
-        if not re.search(rf"^pub {re.escape(law)} : Settles ", laws, re.MULTILINE):
-            yield f"{crate}::{function}: no law {law} in {SETTLED}"
+def unsettled_functions(root):
+    """Functions that other crates can call, and of which no law says that their promise settles the outcome."""
+    laws = "\n".join(sources.text_of(root, file) for file in sources.files(root, "outcomes/proofs/*.antt"))
+    for one in exported_functions(root):
+        law = f"{one.crate}-{one.name}-settled".replace("_", "-")
+        if not re.search(rf"^pub {re.escape(law)} : Settles\s", laws, re.MULTILINE):
+            yield f"{one.crate}::{one.name}: no law {law}"
 
 
 # ---- demands
@@ -503,22 +497,15 @@ pub fn main() {
         self.assertEqual(self.unnamed(*rows, "", "In `walks` too. See `wide`."), ["walks::link", "walks::wide"])
 
     def test_settled_by_name(self):
-        root = self.tree("""\
+        root = self.tree(self.CRATES + """\
 == outcomes/proofs/Doors.antt
 pub walks-walk-settled : Settles walk.Learnt (λ κ x s. x)
-pub sets-is-in-settled : Settles is-in.Learnt (λ κ x s. x)
--- pub sets-only-settled : Settles
-== /docs/DOORS.md
-| door | promise |
-|---|---|
-| `walks::walk` | by `link` |
-| `sets::is_in`, `only` | told |
-
-| crate | functions |
-|---|---|
-| `walks` | `wide` |
+-- pub walks-link-settled : Settles
+== outcomes/proofs/Inner.antt
+pub walks-wide-settled : Settles
+    wide.Learnt (λ κ x s. x)
 """)
-        self.assertEqual([fault.split(": ")[0] for fault in unsettled_doors(root)], ["sets::only"])
+        self.assertEqual([fault.split(": ")[0] for fault in unsettled_functions(root)], ["walks::link"])
 
 
 class Demands(MadeUp):
@@ -664,6 +651,11 @@ next-line-spec = 1
 help : ℕ
 help = 1
 """), ["law help"])
+
+    def test_laws_of_outcomes_are_kept(self):
+        laws = "pub walks-walk-settled : ℕ\nwalks-walk-settled = 1\npub other : ℕ\nother = 1\n"
+        self.assertEqual(self.found(f"== outcomes/proofs/Doors.antt\n{laws}"), ["law other"])
+        self.assertEqual(self.found(f"== a/proofs/Doors.antt\n{laws}"), ["law walks-walk-settled", "law other"])
 
     def test_definitions(self):
         self.assertEqual(self.found("""\
@@ -869,8 +861,8 @@ class House(unittest.TestCase):
     def test_demands_are_stated_by_definitions(self):
         self.hold(demands_in_own_words, "Let each of these stand in specs/, where a reader looks for it:")
 
-    def test_doors_are_settled(self):
-        self.hold(unsettled_doors, "State for each that two outcomes which its promise allows are equal:")
+    def test_outcomes_are_settled(self):
+        self.hold(unsettled_functions, "State in crates/outcomes that two outcomes which its promise allows are equal:")
 
     def test_nothing_is_unused(self):
         self.hold(needless, "Take it away, or name it in docs/ as the door or the theorem that it is:")

@@ -2,7 +2,7 @@
 -- told), and no copy of it. Where it is an equation of the outcome with what was lent, that it settles is immediate, by one law;
 -- a set, and what is offered, are told by their members, which determine them. Assumes nothing.
 use Prim.Native.Nat.{ℕ}
-use mathlib.Core.Path.{_≡_, refl, sym, ap₂, _∙_}
+use mathlib.Core.Path.{_≡_, refl, sym, _∙_}
 use mathlib.Core.Bool.{Bool, true, false, false≢true}
 use denote.Ref.{now}
 use Rattle.columns.specs.words.Columns.{all-columns}
@@ -17,6 +17,7 @@ use Rattle.numbering.specs.code.Numbered.{with-counts}
 use Rattle.writing.specs.words.Slice.{with-slice}
 use Rattle.reading.specs.code.Outcome.{with-graph}
 use Rattle.outcomes.specs.Settles.{Settles, _beside_}
+use Rattle.outcomes.proofs.Settling.{by-equation, both}
 use Rattle.lines.proofs.find_line.Reads as lines-find-line
 use Rattle.lines.proofs.part_of.Reads as lines-part-of
 use Rattle.lines.proofs.refusal_of.Reads as lines-refusal-of
@@ -52,18 +53,6 @@ use Rattle.saving.proofs.save.Reads as saving-save
 use Rattle.reading.proofs.read_track.Reads as reading-read-track
 use Rattle.listing.proofs.list.Reads as listing-list
 
--- an outcome that the promise equates with something that was lent
-module _ {K : Type 0} {Lent Answer Left : K → Type 0} {Outcome : Type 0}
-    {promise : (κ : K) → Lent κ → Answer κ → Left κ → Type 0} {outcome : (κ : K) → Answer κ → Left κ → Outcome}
-    {is : (κ : K) → Lent κ → Outcome} where
-  by-equation : ((κ : K) (lent : Lent κ) (x : Answer κ) (s : Left κ) → promise κ lent x s → outcome κ x s ≡ is κ lent)
-      → Settles promise outcome
-  by-equation told κ lent x y s t p q = told κ lent x s p ∙ sym (told κ lent y t q)
-
--- an outcome of two parts
-both : {A B : Type 0} {a c : A} {b d : B} → a ≡ c → b ≡ d → a beside b ≡ c beside d
-both e f = ap₂ _beside_ e f
-
 -- a set is empty or it is not
 one-emptiness : (s : ℕ) (x y : Bool) → Emptiness s x → Emptiness s y → x ≡ y
 one-emptiness s true true p q = refl
@@ -96,7 +85,8 @@ numbers-byte-settled = by-equation (λ κ lent x s p. p)
 pub numbers-number-settled : Settles numbers-number.Learnt (λ κ x s. x)
 numbers-number-settled = by-equation (λ κ lent x s p. p)
 
-pub scripts-next-step-settled : Settles scripts-next-step.Learnt (λ κ x s. let (text, (at, (digits, _))) = s in x beside now digits)
+pub scripts-next-step-settled : Settles scripts-next-step.Learnt
+    (λ κ x s. let (text, (at, (digits, _))) = s in x beside now digits)
 scripts-next-step-settled = by-equation (λ κ lent x s p. both (p .0) (p .1))
 
 pub kinds-subterms-settled : Settles kinds-subterms.Learnt (λ κ x s. x)
@@ -111,10 +101,13 @@ refusals-first-line-settled = by-equation (λ κ lent x s p. p)
 pub refusals-table-line-settled : Settles refusals-table-line.Learnt (λ κ x s. x)
 refusals-table-line-settled = by-equation (λ κ lent x s p. p)
 
-pub tables-check-settled : Settles tables-check.Learnt (λ κ x s. let (text, (kinds, (payloads, (owners, (after, (roots, _)))))) = s in with-columns x (all-columns (now kinds) (now payloads) (now owners) (now after) (now roots)))
+pub tables-check-settled : Settles tables-check.Learnt
+    (λ κ x s. let (text, (kinds, (payloads, (owners, (after, (roots, _)))))) = s in
+    with-columns x (all-columns (now kinds) (now payloads) (now owners) (now after) (now roots)))
 tables-check-settled = by-equation (λ κ lent x s p. p)
 
-pub places-place-settled : Settles places-place.Learnt (λ κ x s. let (literal, (kinds, (owners, (after, (roots, (path, _)))))) = s in x beside now path)
+pub places-place-settled : Settles places-place.Learnt
+    (λ κ x s. let (literal, (kinds, (owners, (after, (roots, (path, _)))))) = s in x beside now path)
 places-place-settled = by-equation (λ κ lent x s p. both (p .0) (p .1))
 
 pub sets-has-settled : Settles sets-has.Learnt (λ κ x s. x)
@@ -137,7 +130,8 @@ inputs-table-end-settled = by-equation (λ κ lent x s p. p)
 
 -- ---- rules
 
-pub plans-lay-out-settled : Settles plans-lay-out.Learnt (λ κ x s. let (terms, (kinds, (payloads, (after, (roots, (plan, _)))))) = s in now plan)
+pub plans-lay-out-settled : Settles plans-lay-out.Learnt
+    (λ κ x s. let (terms, (kinds, (payloads, (after, (roots, (plan, _)))))) = s in now plan)
 plans-lay-out-settled = by-equation (λ κ lent x s p. p)
 
 pub offers-offers-settled : Settles offers-offers.Learnt (λ κ x s. x)
@@ -146,39 +140,67 @@ offers-offers-settled κ lent x y s t p q = offers-once x y (p .0 ∙ sym (q .0)
 pub status-status-at-settled : Settles status-status-at.Learnt (λ κ x s. x)
 status-status-at-settled = by-equation (λ κ lent x s p. p .0)
 
-pub runs-start-settled : Settles runs-start.Learnt (λ κ x s. let (nodes, (track, (counters, _))) = s in now nodes beside now track beside now counters)
+pub runs-start-settled : Settles runs-start.Learnt
+    (λ κ x s. let (nodes, (track, (counters, _))) = s in now nodes beside now track beside now counters)
 runs-start-settled = by-equation (λ κ lent x s p. both (p .0) (both (p .1 .0) (p .1 .1 .0)))
 
-pub runs-step-settled : Settles runs-step.Learnt (λ κ x s. let (count, (digits, (plan, (sets, (nodes, (track, (counters, _))))))) = s in with-answer x (now nodes) (now track) (now counters))
+pub runs-step-settled : Settles runs-step.Learnt
+    (λ κ x s. let (count, (digits, (plan, (sets, (nodes, (track, (counters, _))))))) = s in
+    with-answer x (now nodes) (now track) (now counters))
 runs-step-settled = by-equation (λ κ lent x s p. p .0)
 
-pub playing-play-settled : Settles playing-play.Learnt (λ κ x s. let (text, (at, (digits, (plan, (sets, (nodes, (track, (counters, _)))))))) = s in with-played x (now nodes) (now track) (now counters) beside now digits)
+pub playing-play-settled : Settles playing-play.Learnt
+    (λ κ x s. let (text, (at, (digits, (plan, (sets, (nodes, (track, (counters, _)))))))) = s in
+    with-played x (now nodes) (now track) (now counters) beside now digits)
 playing-play-settled = by-equation (λ κ lent x s p. both (p .0) (p .1 .0))
 
 -- ---- saving
 
-pub links-link-settled : Settles links-link.Learnt (λ κ x s. let (arcs, (marks, (track, (kinds, (after, (sides, _)))))) = s in x beside now sides)
+pub links-link-settled : Settles links-link.Learnt
+    (λ κ x s. let (arcs, (marks, (track, (kinds, (after, (sides, _)))))) = s in x beside now sides)
 links-link-settled = by-equation (λ κ lent x s p. both (p .0) (p .1))
 
-pub walks-walk-settled : Settles walks-walk.Learnt (λ κ x s. let (marks, (sides, (numbers, (labels, (pending, _))))) = s in with-numbers x (now numbers) (now labels) beside now pending)
+pub walks-walk-settled : Settles walks-walk.Learnt
+    (λ κ x s. let (marks, (sides, (numbers, (labels, (pending, _))))) = s in
+    with-numbers x (now numbers) (now labels) beside now pending)
 walks-walk-settled = by-equation (λ κ lent x s p. both (p .0) (p .1))
 
-pub numbering-number-settled : Settles numbering-number.Learnt (λ κ x s. let (arcs, (meetings, (marks, (track, (kinds, (after, (labels, (graph, (sides, (pending, (numbers, (spare, _)))))))))))) = s in with-counts x (now labels) (now graph) beside now sides beside now pending beside now numbers beside now spare)
-numbering-number-settled = by-equation (λ κ lent x s p. both (p .0) (both (p .1 .0) (both (p .1 .1 .0) (both (p .1 .1 .1 .0) (p .1 .1 .1 .1)))))
+pub numbering-number-settled : Settles numbering-number.Learnt
+    (λ κ x s. let (arcs, (meetings, (marks, (track, (kinds, (after, (labels, (graph, (sides, (pending, (numbers, (spare, _)))))))))))) = s in
+    with-counts x (now labels) (now graph) beside now sides beside now pending beside now numbers
+    beside now spare)
+numbering-number-settled =
+    by-equation (λ κ lent x s p. both (p .0) (both (p .1 .0) (both (p .1 .1 .0)
+    (both (p .1 .1 .1 .0) (p .1 .1 .1 .1)))))
 
-pub writing-write-settled : Settles writing-write.Learnt (λ κ x s. let (counts, (labels, (graph, (kinds, (owners, (after, (roots, (text, _)))))))) = s in with-slice x (now text))
+pub writing-write-settled : Settles writing-write.Learnt
+    (λ κ x s. let (counts, (labels, (graph, (kinds, (owners, (after, (roots, (text, _)))))))) = s in
+    with-slice x (now text))
 writing-write-settled = by-equation (λ κ lent x s p. p)
 
 pub writing-refusal-of-settled : Settles writing-refusal-of.Learnt (λ κ x s. x)
 writing-refusal-of-settled = by-equation (λ κ lent x s p. p)
 
-pub saving-save-settled : Settles saving-save.Learnt (λ κ x s. let (kinds, (owners, (after, (roots, (nodes, (track, (counters, (labels, (graph, (marks, (sides, (pending, (numbers, (spare, (text, _))))))))))))))) = s in with-slice x (now text) beside now labels beside now graph beside now marks beside now sides beside now pending beside now numbers beside now spare)
-saving-save-settled = by-equation (λ κ lent x s p. both (p .0) (both (p .1 .0) (both (p .1 .1 .0) (both (p .1 .1 .1 .0) (both (p .1 .1 .1 .1 .0) (both (p .1 .1 .1 .1 .1 .0) (both (p .1 .1 .1 .1 .1 .1 .0) (p .1 .1 .1 .1 .1 .1 .1 .0))))))))
+pub saving-save-settled : Settles saving-save.Learnt
+    (λ κ x s. let (kinds, (owners, (after, (roots, (nodes, (track, (counters, (labels, (graph, (marks, (sides, (pending, (numbers, (spare, (text, _))))))))))))))) = s in
+    with-slice x (now text) beside now labels beside now graph beside now marks beside now sides
+    beside now pending beside now numbers beside now spare)
+saving-save-settled =
+    by-equation (λ κ lent x s p. both (p .0) (both (p .1 .0) (both (p .1 .1 .0) (both (p .1 .1 .1 .0)
+    (both (p .1 .1 .1 .1 .0) (both (p .1 .1 .1 .1 .1 .0)
+    (both (p .1 .1 .1 .1 .1 .1 .0) (p .1 .1 .1 .1 .1 .1 .1 .0))))))))
 
-pub reading-read-track-settled : Settles reading-read-track.Learnt (λ κ x s. let (text, (definitions, (kinds, (payloads, (after, (roots, (labels, (graph, (marks, (track, (sides, (pending, (numbers, (walked, _)))))))))))))) = s in with-graph x (now labels) (now graph) beside now marks beside now track beside now sides beside now pending beside now numbers beside now walked)
-reading-read-track-settled = by-equation (λ κ lent x s p. both (p .0) (both (p .1 .1 .0) (both (p .1 .1 .1 .0) (both (p .1 .1 .1 .1 .0) (both (p .1 .1 .1 .1 .1 .0) (both (p .1 .1 .1 .1 .1 .1 .0) (p .1 .1 .1 .1 .1 .1 .1)))))))
+pub reading-read-track-settled : Settles reading-read-track.Learnt
+    (λ κ x s. let (text, (definitions, (kinds, (payloads, (after, (roots, (labels, (graph, (marks, (track, (sides, (pending, (numbers, (walked, _)))))))))))))) = s in
+    with-graph x (now labels) (now graph) beside now marks beside now track beside now sides
+    beside now pending beside now numbers beside now walked)
+reading-read-track-settled =
+    by-equation (λ κ lent x s p. both (p .0) (both (p .1 .1 .0) (both (p .1 .1 .1 .0)
+    (both (p .1 .1 .1 .1 .0) (both (p .1 .1 .1 .1 .1 .0)
+    (both (p .1 .1 .1 .1 .1 .1 .0) (p .1 .1 .1 .1 .1 .1 .1)))))))
 
 -- ---- programs
 
-pub listing-list-settled : Settles listing-list.Learnt (λ κ x s. let (input, (out, _)) = s in x beside now out)
+pub listing-list-settled : Settles listing-list.Learnt
+    (λ κ x s. let (input, (out, _)) = s in x beside now out)
 listing-list-settled = by-equation (λ κ lent x s p. both (p .0) (p .1))
