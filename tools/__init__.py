@@ -1,3 +1,3 @@
-"""Tools around the programs, running one and telling a listing in words; and around the sources, what nothing uses
-and what a definition rests on.
+"""Tools around the programs, building and running one and telling a listing in words; and around the sources, what
+nothing uses and what a definition rests on.
 """
