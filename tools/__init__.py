@@ -1,3 +1,3 @@
-"""Tools around the programs, running one, telling a listing in words, and making a table from CSP text and back; and
-around the sources, what nothing uses and what a definition rests on.
+"""Tools around the programs: building and running one, which ./run does, telling a listing in words, and making a table
+from CSP text and back; and around the sources: what nothing uses and what a definition rests on.
 """

@@ -186,13 +186,19 @@ def words_of(frames, names):
     return lines
 
 
+def text_in_words(listing, names):
+    """The text of a listing, bytes, in words, bytes too."""
+    lines = words_of(read_listing(listing.decode("latin-1")), names)
+    return "".join(line + "\n" for line in lines).encode("utf-8")
+
+
 def main():
     try:
         names = read_names(pathlib.Path(sys.argv[1]).read_text("utf-8")) if sys.argv[1:] else {}
-        lines = words_of(read_listing(sys.stdin.buffer.read().decode("latin-1")), names)
+        text = text_in_words(sys.stdin.buffer.read(), names)
     except (Fault, OSError, UnicodeDecodeError) as fault:
         sys.exit(f"words: {fault}")
-    sys.stdout.buffer.write("".join(line + "\n" for line in lines).encode("utf-8"))
+    sys.stdout.buffer.write(text)
 
 
 if __name__ == "__main__":

@@ -15,22 +15,25 @@ import contextlib
 import os
 import pathlib
 import re
-import signal
 import subprocess
 import sys
 import tempfile
 import time
 from typing import NamedTuple
 
-REPOSITORY = pathlib.Path(__file__).resolve().parents[2]
+if __name__ == "__main__":  # as a command, too, packages are found from the repository
+    sys.path[0] = str(pathlib.Path(__file__).resolve().parents[2])
+
+from tools.commands import INTERRUPTION, stop_as_by_an_interrupt, under_way
+from tools.programs import REPOSITORY
+
 RT_CI = ("rt", "ci")
 # `rt` proves crates, and tries edits, in batches and waits for the slowest of each: two for every processor leave none idle
 RT_JOBS = 2 * (os.cpu_count() or 1)
 MEMORY = pathlib.Path("/dev/shm")
 BYTES_FOR_A_JOB = 2**30
 ALL_PASSED = re.compile(rb"[1-9][0-9]* passed, 0 failed\n")
-SECONDS_TO_TIDY_UP = 1
-FAILURE, INTERRUPTION = 1, 130  # exit statuses
+FAILURE = 1  # an exit status
 
 
 class Part(NamedTuple):
@@ -74,19 +77,6 @@ def show(text):
     sys.stdout.buffer.flush()
 
 
-def end(child):
-    """Ends a command with all that it has started; asks it first, so that it can tidy up."""
-    if child.returncode is not None:
-        return
-    for stopping in (signal.SIGINT, signal.SIGTERM, signal.SIGHUP):
-        signal.signal(stopping, signal.SIG_IGN)  # nothing stops the ending
-    os.kill(child.pid, signal.SIGINT)
-    for surely in (signal.SIGTERM, signal.SIGKILL):  # what a shell runs beside itself ignores an interrupt
-        time.sleep(SECONDS_TO_TIDY_UP)
-        os.killpg(child.pid, surely)
-    child.wait()
-
-
 @contextlib.contextmanager
 def started(words, **streams):
     """A command under way, in a process group of its own, which is ended where the block is left by an exception.
@@ -97,14 +87,10 @@ def started(words, **streams):
         child = subprocess.Popen(words, cwd=REPOSITORY, stdin=subprocess.DEVNULL, start_new_session=True, **streams)
     except OSError as error:
         raise Failed(f"{' '.join(words)}: {error}") from error
-    try:
+    with under_way(child):
         yield child
-        status = child.wait()
-    except BaseException:
-        end(child)
-        raise
-    if status != 0:
-        raise Failed(f"{' '.join(words)}: status {status}")
+    if child.returncode != 0:
+        raise Failed(f"{' '.join(words)}: status {child.returncode}")
 
 
 def run_part(part):
@@ -192,9 +178,7 @@ def run(first, on_what_was_built):
 
 def main():
     argparse.ArgumentParser(description="every test; ./test calls it").parse_args()
-    for stopping in (signal.SIGTERM, signal.SIGHUP):
-        if signal.getsignal(stopping) is not signal.SIG_IGN:
-            signal.signal(stopping, signal.default_int_handler)
+    stop_as_by_an_interrupt()
     return run(FIRST, ON_WHAT_WAS_BUILT)
 
 
