@@ -137,14 +137,15 @@ def alone():
 
 
 def told_as_proved(lines, count):
-    """Gives the lines that rt prints, and tells of every crate in them that is proved, of so many."""
+    """Gives the lines that rt prints, and tells of every crate in them that is proved anew, of so many."""
     done = 0
     for line in lines:
         proved = PROVED.fullmatch(line)
         if proved:
             done += 1
             name, seconds = proved.groups()
-            say(f"{done} of {count} proved: {name}" + (f" {seconds} s" if seconds else ", unchanged"))
+            if seconds:
+                say(f"{done} of {count} proved: {name} {seconds} s")
         yield line
 
 

@@ -240,7 +240,6 @@ class Proving(OwnHouse):
         self.assertTrue(lines[0].startswith(b"run: proving and building track, 3 crates"), lines)
         self.assertEqual(lines[1:], [
             b"run: 1 of 3 proved: low 17 s\n",
-            b"run: 2 of 3 proved: middle, unchanged\n",
             b"run: 3 of 3 proved: track 0 s\n",
         ])
 
