@@ -7,7 +7,8 @@
 
 The file - is standard input. A table may have a script behind it. Where NAMES is not given, SHOW.names beside
 SHOW.table or SHOW.txt is taken if it is there; what has no name, or one that the notation cannot have, is told by its
-number. A file that is there already is replaced only if each of its lines is one of a table, or of names.
+number. A file that is there already is replaced only if each of its lines is one of a table, or of names; of names,
+comments and blank lines too, which are lost with it.
 
 What is wrong with a text is told with its line and column, one fault at a time, and what is wrong with a table with
 the number of its refusal; status 2. Nothing here is proved: the table check judges every table, and so these too.

@@ -2,8 +2,14 @@
 
     ./run FILE | python3 tools/words.py [NAMES]
 
-reads the listing and nothing else. NAMES is a file of lines `definition N NAME` and `event N NAME`; what has
-no name is told by its number. A line that is none of a listing's is an error, told with its number; status 1.
+reads the listing and nothing else. What has no name in the file NAMES is told by its number. There each line is one of
+
+    definition N NAME
+    event N NAME
+
+or blank. N is 0 to 63, or 0x0 to 0x3f, and is named once. NAME goes to the end of its line and may have blanks in it.
+A comment goes from -- to the end of its line, and begins the line or has a blank before it. A line that is none of a
+listing's, or none of names, is an error, told with its number; status 1.
 """
 
 import pathlib
@@ -22,6 +28,8 @@ FRAMES = {  # how each is written, and which may stand behind it
     MEETING: ("33(....){2}", (MEETING, LAST)),
     LAST: ("3f", ()),
 }
+
+NAMED, MOST_NUMBER = ("definition", "event"), 63  # what has names, and its highest number
 
 STATUSES = ("live (more can happen)", "ended (came to its successful end)", "stuck (nothing more can happen)")
 REST_WORDS = (
@@ -109,14 +117,39 @@ def read_listing(text):
     return frames
 
 
+def number_in(word):
+    """The number that a word is, decimal or hexadecimal, or None where it is none that can have a name."""
+    found = re.fullmatch("0*([0-9]{1,2})|0x0*([0-9a-fA-F]{1,2})", word)
+    if not found:
+        return None
+    number = int(found[1]) if found[1] else int(found[2], 16)
+    return number if number <= MOST_NUMBER else None
+
+
+def take_name(names, what, word="", name=""):
+    """Adds the name that the parts of a line give."""
+    number = number_in(word)
+    if what not in NAMED:
+        raise Fault(f"expected `definition` or `event`, found {what!r}")
+    if number is None:
+        raise Fault(f"expected a number, 0 to {MOST_NUMBER} or 0x0 to {MOST_NUMBER:#x}, found {word!r}")
+    if not name:
+        raise Fault(f"expected a name behind {word!r}")
+    if (what, number) in names:
+        raise Fault(f"{what} {number} has a name already, {names[what, number]!r}")
+    names[what, number] = name
+
+
 def read_names(text):
     """The names, by what they name: ("definition", N) or ("event", N)."""
     names = {}
-    for number, line in enumerate(text.splitlines(), 1):
-        found = re.fullmatch(r"(definition|event) ([0-9]+) (\S.*)", line)
-        if not found:
-            raise Fault(f"line {number} of the names is no `definition N NAME` or `event N NAME`: {line!r}")
-        names[found[1], int(found[2])] = found[3]
+    for count, line in enumerate(text.removeprefix("\ufeff").split("\n"), 1):
+        parts = re.sub(r"(^|\s)--.*", "", line).strip().split(maxsplit=2)
+        try:
+            if parts:
+                take_name(names, *parts)
+        except Fault as fault:
+            raise Fault(f"line {count} of the names: {fault}") from fault
     return names
 
 

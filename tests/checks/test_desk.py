@@ -331,11 +331,19 @@ class Files(unittest.TestCase):
         self.assertEqual(self.desk("show.csp")[2], 0)
         self.assertEqual(self.there(), {"show.table": self.TABLE, "show.names": self.NAMES})
 
+    def test_names_with_comments_are_replaced(self):
+        self.put("show.csp", self.TEXT)
+        for names in ("\n", "-- mine\n", "event 0x0 up -- the first cue\n\n"):
+            self.put("show.names", names)
+            self.assertEqual(self.desk("show.csp")[2], 0)
+            self.assertEqual(self.there()["show.names"], self.NAMES)
+
     def test_another_file_is_not_replaced(self):
         self.put("show.csp", self.TEXT)
         for name, text in (
             ("show.table", "a table\n"), ("show.table", self.TABLE + "200000\n"), ("show.table", "1209\n"),
-            ("show.table", "1100\n\n"), ("show.names", "definition 0 SHOW\nmine\n"), ("show.names", "\n"),
+            ("show.table", "1100\n\n"), ("show.names", "definition 0 SHOW\nmine\n"),
+            ("show.names", "event 0 up\nevent 0 go\n"), ("show.names", "event 64 up\n"),
         ):
             self.put(name, text)
             printed, said, status = self.desk("show.csp")
@@ -430,7 +438,7 @@ S = event_0 -> event_1 -> event_2 -> event_3 -> event_4 -> S [] S
             for names, event in (((), "go"), (("u.names",), "up")):
                 printed = run_desk("--tell", "t.table", *names, folder=folder)[0]
                 self.assertEqual(printed, f"channel {event}\nP0 = {event} -> P1\nP1 = P0\n")
-            said = "desk: bad: line 1 of the names is no `definition N NAME` or `event N NAME`: 'go'\n"
+            said = "desk: bad: line 1 of the names: expected `definition` or `event`, found 'go'\n"
             self.assertEqual(run_desk("--tell", "t.table", "bad", folder=folder), ("", said, 2))
 
     def test_a_refused_table(self):

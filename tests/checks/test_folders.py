@@ -86,7 +86,7 @@ class Commands(unittest.TestCase):
 
 class Paths(unittest.TestCase):
     def test_paths_that_are_told_are_there(self):
-        told = [REPOSITORY / name for name in ("README.md", "examples/README.md", "test", "run")]
+        told = [REPOSITORY / name for name in ("README.md", "examples/README.md", "docs/FORMAT.md", "test", "run")]
         for file in told + python_files():
             for path in PATH.findall(file.read_text("utf-8")):
                 self.assertTrue((REPOSITORY / path).exists(), f"{path} in {file}")

@@ -10,7 +10,7 @@ import unittest
 
 from tests.checks.test_rules import CASE_A_TRACK, text
 from tests.independent.rules import listing
-from tools import words
+from tools import desk, words
 from tools.programs import REPOSITORY
 
 EMPTY_TRACK = "3001000000000000/3f/"
@@ -151,10 +151,57 @@ class Names(unittest.TestCase):
         self.assertEqual(lines[0], "step 1: event cue 7 go")
         self.assertEqual(lines[3], "node 0    left-hand side of BÜHNE  the start")
 
+    def test_blanks_comments_and_numbers(self):
+        for line in (
+            "event 11 cue 7 go", "event 0xb cue 7 go", "event 0x0B cue 7 go", "event 011 cue 7 go",
+            "event 11 cue 7 go\r", "  event\t11   cue 7 go  ", "\ufeffevent 11 cue 7 go",
+            "event 11 cue 7 go -- the last", "event 11 cue 7 go --",
+            "\n--\n \n-- event 11 no\n\t--event 12 no\n-----\nevent 11 cue 7 go\n\n",
+        ):
+            self.assertEqual(words.read_names(line), {("event", 11): "cue 7 go"}, line)
+        self.assertEqual(words.read_names(""), {})
+        self.assertEqual(words.read_names("event 0x3f a--b #7"), {("event", 63): "a--b #7"})
+        both = {("event", 0): "go", ("definition", 0): "go"}
+        self.assertEqual(words.read_names("event 0 go\ndefinition 0x0 go"), both)
+
     def test_a_line_that_names_nothing(self):
-        for line in ("definition SHOW", "event 0", "event 0 ", "place 0 SHOW", "", "definition x SHOW"):
-            with self.assertRaisesRegex(words.Fault, "^line 2 of the names "):
-                told(CASE_A, "event 0 GO\n" + line + "\n")
+        number = "expected a number, 0 to 63 or 0x0 to 0x3f, found "
+        for line, said in (
+            ("place 1 SHOW", "expected `definition` or `event`, found 'place'"),
+            ("Event 1 go", "expected `definition` or `event`, found 'Event'"),
+            ("# event 1 go", "expected `definition` or `event`, found '#'"),
+            ("definition SHOW", number + "'SHOW'"),
+            ("definition", number + "''"),
+            ("event 64 go", number + "'64'"),
+            ("event 0x40 go", number + "'0x40'"),
+            ("event " + "9" * 5_000 + " go", number + repr("9" * 5_000)),
+            ("event 0x go", number + "'0x'"),
+            ("event 3f go", number + "'3f'"),
+            ("event -1 go", number + "'-1'"),
+            ("event \u0661 go", number + "'\u0661'"),
+            ("event 1", "expected a name behind '1'"),
+            ("event 1 -- go", "expected a name behind '1'"),
+            ("event 0x00 UP", "event 0 has a name already, 'GO'"),
+            ("event 0 GO", "event 0 has a name already, 'GO'"),
+        ):
+            with self.assertRaises(words.Fault) as caught:
+                words.read_names("event 0 GO\n\n" + line + "\nnothing\n")
+            self.assertEqual(str(caught.exception), "line 3 of the names: " + said)
+
+    def test_the_names_that_the_desk_writes(self):
+        events = [f"e{number}" for number in range(64)]
+        definitions = [f"P{number}" for number in range(64)]
+        show = f"channel {', '.join(events)}\n" + "".join(f"{name} = STOP\n" for name in definitions)
+        named = {("definition", number): name for number, name in enumerate(definitions)}
+        named.update({("event", number): name for number, name in enumerate(events)})
+        self.assertEqual(words.read_names(desk.compiled(show).names), named)
+
+    def test_a_bad_file_of_names(self):
+        with tempfile.NamedTemporaryFile("w", suffix=".names", encoding="utf-8") as names:
+            names.write("event 64 go\n")
+            names.flush()
+            said = "words: line 1 of the names: expected a number, 0 to 63 or 0x0 to 0x3f, found '64'\n"
+            self.assertEqual(run_words(text(CASE_A), names.name), ("", said, 1))
 
     def test_no_file_of_names(self):
         printed, said, status = run_words(text(CASE_A), "nowhere.names")
