@@ -139,6 +139,7 @@ class Feeding(threading.Thread):
     def __init__(self, pipe, files):
         super().__init__(daemon=True)  # a file from which nothing comes holds nobody up
         self.pipe, self.files, self.fault = pipe, files, None
+        self.front = b""  # of what was handed over, so many bytes as have room for a table
 
     def run(self):
         try:
@@ -153,11 +154,12 @@ class Feeding(threading.Thread):
 
     def hand_over(self, file):
         while piece := os.read(file.fileno(), BYTES_AT_A_TIME):
+            self.front += piece[: BYTES_AT_A_TIME - len(self.front)]
             write_all(self.pipe, piece)
 
 
 def answer_to_files(started, files):
-    """The answer to files, one behind the other, which are read about as far as the program reads."""
+    """The answer to files, one behind the other, which are read about as far as the program reads; and their front."""
     reading, writing = os.pipe()
     feeding = Feeding(writing, files)
     feeding.start()
@@ -165,7 +167,7 @@ def answer_to_files(started, files):
         answer = answer_from(started, seconds=None, stdin=source)
     if feeding.fault:
         raise Unreadable(f"cannot read the input: {feeding.fault.strerror}")
-    return answer
+    return answer, feeding.front
 
 
 # ---- an input that comes in pieces

@@ -135,12 +135,12 @@ def put(text):
 
 
 def output_of(program, sources):
-    """What a program prints for files."""
+    """What a program prints for files, and the front of these."""
     with in_a_room(built(program)) as started:
-        answer = answer_to_files(started, sources)
+        answer, front = answer_to_files(started, sources)
     if answer.trouble:
         raise Trouble(f"the program {program} did not end well: {' '.join(answer.trouble.split())}")
-    return answer.output
+    return answer.output, front
 
 
 def framed_refusal(output):
@@ -154,6 +154,13 @@ def judged_refusal(output):
     """The same of the refusal that judge tells."""
     found = re.search(b"^(table|script) refused ([0-9]+) at line ([0-9]+)$", output, re.MULTILINE)
     return found and (bytes([words.REFUSAL, int(found[2]), *divmod(int(found[3]), 256)]), found[1].decode("ascii"))
+
+
+def told_in_words(output, names, front):
+    """A listing in words, with the table at the front of the input at hand."""
+    from tools.desk import skips_in  # only here, since it takes longer than a run without words
+
+    return words.text_in_words(output, names, skips_in(front))
 
 
 def first_refusal(program, output):
@@ -174,8 +181,8 @@ def run(option, files):
     """Runs a program on files; gives the exit status."""
     program, sources = PROGRAMS[option], [opened(file) for file in files]
     names = names_beside(files[0]) if option == "--words" else None
-    output = output_of(program, sources)
-    put(output if names is None else words.text_in_words(output, names))
+    output, front = output_of(program, sources)
+    put(output if names is None else told_in_words(output, names, front))
     refusal = first_refusal(program, output)
     if refusal:
         say(refusal)

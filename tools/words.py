@@ -2,7 +2,8 @@
 
     ./run FILE | python3 tools/words.py [NAMES]
 
-reads the listing and nothing else. What has no name in the file NAMES is told by its number. There each line is one of
+reads the listing and nothing else, so it cannot tell a part that has ended from one that waits; `./run --words`, which has
+the table at hand, can. What has no name in the file NAMES is told by its number. There each line is one of
 
     definition N NAME
     event N NAME
@@ -31,12 +32,14 @@ FRAMES = {  # how each is written, and which may stand behind it
 
 NAMED, MOST_NUMBER = ("definition", "event"), 63  # what has names, and its highest number
 
+ENDED = 1
 STATUSES = ("live (more can happen)", "ended (came to its successful end)", "stuck (nothing more can happen)")
 REST_WORDS = (
     "Control has come as far as these nodes, which nothing follows yet. If a cue was held, look here:",
     "Control came to its end at these nodes, which nothing follows:",
     "Control came to rest at these nodes, which nothing follows. If a cue was held, look here:",
 )
+SOUND_WORDS = "These have come to their own end, at SKIP, and are sound:"
 REST_NOTE = "A part that never took a step has no node; a choice's side that was given up keeps its nodes."
 EXPORT_AGAIN = "Export the text from the desk again, copy the whole of it, and do not edit it by hand."
 MEND = "Have the programmer mend or shorten the definition that stands before this line."
@@ -196,15 +199,25 @@ def node_lines(places, arcs, meetings):
         yield f"node {number:<4} {place:<{wide}}  {links}" + (f"; met {met[number]}" if number in met else "")
 
 
-def rest_lines(places, arcs, status):
-    """The nodes that nothing follows: where to look."""
+def listed(heading, numbers, places):
+    """Nodes below a heading, which stands only where there are some."""
+    return [heading, *(f"  node {number:<4} {places[number]}" for number in numbers)] if numbers else []
+
+
+def rest_lines(places, arcs, status, at_skip):
+    """The nodes that nothing follows: where to look, and apart from these the SKIPs of parts that have ended."""
     followed = {i for i, _ in arcs}
-    at_rest = [f"  node {number:<4} {place}" for number, place in enumerate(places) if number not in followed]
-    return [REST_WORDS[status], *at_rest, REST_NOTE] if places else ["No step was accepted."]
+    at_rest = [number for number in range(len(places)) if number not in followed]
+    sound = [] if status == ENDED else [number for number in at_rest if number in at_skip]
+    to_look_at = [number for number in at_rest if number not in sound]
+    return [*listed(REST_WORDS[status], to_look_at, places), *listed(SOUND_WORDS, sound, places), REST_NOTE]
 
 
-def words_of(frames, names):
-    """A listing in words: its steps, its status, its refusals and its track, as far as it has them."""
+def words_of(frames, names, skips=()):
+    """A listing in words: its steps, its status, its refusals and its track, as far as it has them.
+
+    `skips` are the places of the table's SKIPs, by definition and path, where the table is at hand.
+    """
     steps = enumerate(of_kind(STEP, frames), 1)
     lines = [f"step {number}: {event_words(step, names)}" for number, step in steps]
     statuses = [frame[1] for frame in of_kind(STATUS, frames)]
@@ -212,16 +225,19 @@ def words_of(frames, names):
     for refusal in of_kind(REFUSAL, frames):
         lines += refusal_words(refusal, "script" if statuses else "table")
     if of_kind(COUNTS, frames):
-        places = [place_words(node, names) for node in of_kind(NODE, frames)]
+        nodes = of_kind(NODE, frames)
+        places = [place_words(node, names) for node in nodes]
+        at_skip = {number for number, node in enumerate(nodes) if (node[3], tuple(node[5:])) in skips}
         arcs, meetings = ([numbers_of(pair[1:]) for pair in of_kind(kind, frames)] for kind in (ARC, MEETING))
         lines.append(f"track: nodes {len(places)}, arcs {len(arcs)}, meetings {len(meetings)}")
-        lines += [*node_lines(places, arcs, meetings), *rest_lines(places, arcs, statuses[0])]
+        lines += node_lines(places, arcs, meetings)
+        lines += rest_lines(places, arcs, statuses[0], at_skip) if places else ["No step was accepted."]
     return lines
 
 
-def text_in_words(listing, names):
+def text_in_words(listing, names, skips=()):
     """The text of a listing, bytes, in words, bytes too."""
-    lines = words_of(read_listing(listing.decode("latin-1")), names)
+    lines = words_of(read_listing(listing.decode("latin-1")), names, skips)
     return "".join(line + "\n" for line in lines).encode("utf-8")
 
 

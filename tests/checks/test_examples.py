@@ -8,7 +8,7 @@ import unittest
 
 from tests.independent.frames import cut_input
 from tests.independent.rules import listing
-from tools import words
+from tools import desk, words
 from tools.programs import REPOSITORY
 
 EXAMPLES = REPOSITORY / "examples"
@@ -16,7 +16,7 @@ README = (EXAMPLES / "README.md").read_text("utf-8")
 COUNTS = re.findall(r"^\| (\S+) \| (\d+) \| (live|ended|stuck) \| (\d+) \| (\d+) \|$", README, re.MULTILINE)
 SECTIONS = dict(re.findall(r"^## (\S+)\n(.*?)(?=^## |\Z)", README, re.MULTILINE | re.DOTALL))
 SHOWS = ("casino", "held", "ends-well")
-QUOTED_WORDS = re.compile(r"^    ((?:  )?(?:step|status|refused|node|Control) .*)", re.MULTILINE)
+QUOTED_WORDS = re.compile(r"^    ((?:  )?(?:step|status|refused|node|Control|These) .*)", re.MULTILINE)
 
 
 def given(show):
@@ -31,7 +31,8 @@ def listed(show):
 def told(show):
     """The lines of a show's words, by its names."""
     names = words.read_names((EXAMPLES / f"{show}.names").read_text("utf-8"))
-    return words.words_of(words.read_listing(listing(given(show)).decode("ascii")), names)
+    frames = words.read_listing(listing(given(show)).decode("ascii"))
+    return words.words_of(frames, names, desk.skips_in(given(show)))
 
 
 class Shows(unittest.TestCase):
@@ -56,6 +57,12 @@ class Shows(unittest.TestCase):
             quoted = QUOTED_WORDS.findall(SECTIONS[show])
             self.assertGreaterEqual(len(quoted), 5, show)
             self.assertLessEqual(set(quoted), set(told(show)), show)
+
+    def test_no_rack_that_has_ended_is_one_to_look_at(self):
+        lines = told("held")
+        look, sound = lines.index(words.REST_WORDS[2]), lines.index(words.SOUND_WORDS)
+        racks = [line.split()[2].strip(",") for line in lines[look + 1 : sound]]
+        self.assertEqual((racks, lines[sound + 1].split()[2]), (["FRONT", "BACK"], "HOUSE"))
 
     def test_quoted_frames(self):
         for show in SHOWS:

@@ -38,9 +38,9 @@ A part that never took a step has no node; a choice's side that was given up kee
 OF_A_TABLE, OF_A_SCRIPT, OF_A_WHOLE_TEXT = (1, 2, 3, 4, 5), (1, 2, 3, 7, 8, 9, 10, 11), (6, 13)  # refusals
 
 
-def told(written, names=""):
+def told(written, names="", skips=()):
     """The lines of a listing's words."""
-    return words.words_of(words.read_listing(text(written).decode("ascii")), words.read_names(names))
+    return words.words_of(words.read_listing(text(written).decode("ascii")), words.read_names(names), skips)
 
 
 def fault_of(written):
@@ -78,6 +78,22 @@ class Frames(unittest.TestCase):
             lines = told(f"41{number:02x}/" + CASE_A_TRACK)
             self.assertTrue(lines[0].startswith("status: " + word), lines[0])
             self.assertIn(words.REST_WORDS[number], lines)
+
+    def test_a_part_that_has_ended_is_none_to_look_at(self):
+        table = text("10010101/1100/12060000000000000001/120200/1207/120200/1208/1f0005/")
+        self.assertEqual(desk.skips_in(table), {(0, (1, 2))})
+        self.assertEqual(desk.skips_in(table[:-1]), set())
+        node, other = "  node 4    definition 0 at 1.2", "  node 7    definition 0 at 2.2"
+        for status, apart in ((0, True), (1, False), (2, True)):
+            lines = told(f"41{status:02x}/" + CASE_A_TRACK, skips=desk.skips_in(table))
+            below = [other, words.SOUND_WORDS, node] if apart else [node, other]
+            self.assertEqual(lines[-len(below) - 2 :], [words.REST_WORDS[status], *below, words.REST_NOTE])
+
+    def test_only_parts_that_have_ended(self):
+        track = "3001000200010000/310000000100/3100010000/3200000001/3f/"
+        lines = told("4100/" + track, skips={(0, ())})
+        self.assertEqual(lines[-3:-1], [words.SOUND_WORDS, "  node 1    definition 0, the whole right-hand side"])
+        self.assertNotIn(words.REST_WORDS[0], lines)
 
     def test_a_run_with_no_step(self):
         lines = told("4100/" + EMPTY_TRACK)
