@@ -33,7 +33,11 @@ FRAMES = {  # how each is written, and which may stand behind it
 NAMED, MOST_NUMBER = ("definition", "event"), 63  # what has names, and its highest number
 
 ENDED = 1
-STATUSES = ("live (more can happen)", "ended (came to its successful end)", "stuck (nothing more can happen)")
+STATUSES = (
+    "live (more can happen)",
+    "ended (came to its successful end)",
+    "stuck (dead: no cue can come any more; the script may still step a STOP)",
+)
 REST_WORDS = (
     "Control has come as far as these nodes, which nothing follows yet. If a cue was held, look here:",
     "Control came to its end at these nodes, which nothing follows:",

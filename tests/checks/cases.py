@@ -1,5 +1,5 @@
-"""The cases of document 01, A to M, the edges around them, and the runs of the report's figures, kept as cases/NAME.in
-and NAME.out.
+"""The cases of document 01, A to M, and of document 02's W2, the edges around them, and the runs of the report's figures,
+kept as cases/NAME.in and NAME.out.
 
     python3 tests/checks/cases.py          runs target/bin/track on every input, handed over whole and in pieces
     python3 tests/checks/cases.py --make   writes every file again, the outputs by the independent program
@@ -19,7 +19,9 @@ if __name__ == "__main__":  # as a command, too, packages are found from the rep
 
 from tests.checks.differential import side_by_side
 from tests.generators.inputs import SIDES, filled, steps_for
-from tests.generators.runs import CASES, FIGURES, LONGEST_NEST, NO_EVENT, call, nest_of, parallel_on, table_of
+from tests.generators.runs import (
+    CASES, FIGURES, LONGEST_NEST, NO_EVENT, STUCK_CASES, call, nest_of, parallel_on, table_of,
+)
 from tests.generators.tables import Padding, padded, step_line, text_of
 from tests.independent import rules
 from tests.independent.frames import TABLE_ROOM
@@ -43,18 +45,18 @@ def text_of_case(draft, addresses):
     return text_of(draft.lines + [step_line(address) for address in addresses])
 
 
+def run_inputs(runs):
+    """The inputs of runs, each by its table and addresses."""
+    return {name: text_of_case(draft, addresses) for name, (draft, addresses) in runs.items()}
+
+
 def case_inputs():
     """Document 01's cases; I and J with the steps that fill a room and one more."""
-    texts = {name: text_of_case(draft, addresses) for name, (draft, addresses) in CASES.items()}
+    texts = run_inputs(CASES)
     for name, room in (("i", NODE_ROOM), ("j", CELL_ROOM)):
         draft, _ = CASES[name]
         texts[name] = text_of_case(draft, [()] * (room + 1))
     return texts | {"a": TABLE_A + SCRIPT_A, "b": TABLE_A + SCRIPT_B, "m": TABLE_A}
-
-
-def figure_inputs():
-    """The report's own runs, by their figures: Examples 2, 3 with 6, 5 and 7."""
-    return {name: text_of_case(draft, addresses) for name, (draft, addresses) in FIGURES.items()}
 
 
 # lots for `nest_of`, whose shapes here leave nothing to them
@@ -95,7 +97,7 @@ def edge_inputs():
 
 
 def all_inputs():
-    return case_inputs() | figure_inputs() | edge_inputs()
+    return case_inputs() | run_inputs(STUCK_CASES) | run_inputs(FIGURES) | edge_inputs()
 
 
 def make():

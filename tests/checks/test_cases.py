@@ -81,8 +81,8 @@ class Cases(unittest.TestCase):
         self.assertEqual(track("c-12"), track("c-21"))
         self.assertEqual(counts("c-12"), (6, 5, 0))
         self.assertIn("31000200020101", track("c-12"))
-        self.assertEqual(events_and_status("c-12"), "4000/400200/400201/4100")
-        self.assertEqual(events_and_status("c-21"), "4000/400201/400200/4100")
+        self.assertEqual(events_and_status("c-12"), "4000/400200/400201/4102")
+        self.assertEqual(events_and_status("c-21"), "4000/400201/400200/4102")
         self.assertIn("51000200020101", by_references("c-12"))  # reference 2 is e0's
         self.assertIn("51000200020201", by_references("c-21"))  # and e1's
 
@@ -90,17 +90,17 @@ class Cases(unittest.TestCase):
         self.assertEqual((events_and_status("d"), counts("d")), ("4000/4000/4000/4001/4101", (4, 3, 0)))
 
     def test_e(self):
-        self.assertEqual((events_and_status("e"), counts("e")), ("4000/4000/4000/4000/4100", (5, 5, 0)))
+        self.assertEqual((events_and_status("e"), counts("e")), ("4000/4000/4000/4000/4102", (5, 5, 0)))
         self.assertLess({"3100030000", "3200020003", "3200040003"}, set(track("e")))
 
     def test_f(self):
         self.assertEqual((events_and_status("f"), counts("f")[0]), ("4000/4001/4101", 3))
 
     def test_g(self):
-        self.assertEqual((events_and_status("g"), counts("g")), ("4000/4000/400200/4100", (5, 4, 0)))
+        self.assertEqual((events_and_status("g"), counts("g")), ("4000/4000/400200/4102", (5, 4, 0)))
 
     def test_h(self):
-        self.assertEqual((events_and_status("h"), counts("h")[2]), ("4000/400200/4100", 3))
+        self.assertEqual((events_and_status("h"), counts("h")[2]), ("4000/400200/4102", 3))
 
     def test_i(self):
         self.assertEqual(told("i"), ["4000"] * 4_096 + ["4100", "4e09%04x" % 4_097, "4e0c0000"])
@@ -112,7 +112,7 @@ class Cases(unittest.TestCase):
     def test_k(self):
         for name in ("k-1", "k-3"):
             self.assertEqual((events_and_status(name), refusals(name)), ("4000/4100", ["4e070002"]))
-        self.assertEqual((events_and_status("k-2"), refusals("k-2")), ("4000/400201/4100", []))
+        self.assertEqual((events_and_status("k-2"), refusals("k-2")), ("4000/400201/4102", []))
 
     def test_l(self):
         self.assertEqual(events_and_status("l-64"), "4000/" + "400200/" * 64 + "4001/4101")
@@ -120,6 +120,23 @@ class Cases(unittest.TestCase):
 
     def test_m(self):
         self.assertEqual(told("m"), ["4100", "3001000000000000", "3f"])
+
+
+class StuckCases(unittest.TestCase):
+    """What document 02's W2 says of a status."""
+
+    def test_a_cut_after_its_third_line(self):
+        self.assertEqual(cases.kept("w2-a")[0], cases.kept("a")[0].removesuffix(text("20000102/")))
+        self.assertEqual((events_and_status("w2-a"), counts("w2-a")), ("4000/400200/4000/4102", (7, 6, 1)))
+
+    def test_who_waits(self):
+        self.assertEqual(events_and_status("w2-prefix"), "4000/4100")
+        self.assertEqual(events_and_status("w2-call"), "4000/4100")
+        self.assertEqual(events_and_status("w2-apart"), "4000/4102")
+
+    def test_a_stop_that_steps_leaves_it_stuck(self):
+        self.assertEqual(events_and_status("w2-stop"), "4000/4102")
+        self.assertEqual(events_and_status("w2-stopped"), "4000/4000/4102")
 
 
 class Figures(unittest.TestCase):
@@ -188,7 +205,7 @@ class Edges(unittest.TestCase):
         self.assertEqual(told("table-ends-early"), ["4e020008"])
         self.assertEqual(told("table-without-last-lf"), ["4e010008"])
         name = "script-without-last-lf"
-        self.assertEqual((events_and_status(name), refusals(name)), ("4000/400200/4000/4100", ["4e010004"]))
+        self.assertEqual((events_and_status(name), refusals(name)), ("4000/400200/4000/4102", ["4e010004"]))
 
     def test_a_refused_table(self):
         self.assertEqual(told("table-refused"), ["4e030008"])

@@ -20,7 +20,7 @@ PAGE = (REPOSITORY / "docs" / "FORMAT.md").read_text("utf-8")
 FENCED = re.compile(r"^```(\w+) ?(\S*)\n(.*?)^```$", re.MULTILINE | re.DOTALL)
 BLOCKS = {(kind, name): body.splitlines() for kind, name, body in FENCED.findall(PAGE)}
 HELD = {  # the blocks that the tests look at
-    *((kind, "cue") for kind in ("csp", "table", "places")), ("steps", ""), ("track", "case-a"),
+    *((kind, "cue") for kind in ("csp", "table", "places")), ("steps", ""), ("statuses", ""), ("track", "case-a"),
     *((kind, "racks") for kind in ("csp", "table", "names", "run", "words")),
 }
 SCRIPT, LISTING = ("run", "racks", 0), ("run", "racks", 10)  # beside each other
@@ -210,6 +210,18 @@ class Listings(unittest.TestCase):
         for where, told, case in rows("input"):
             order = re.sub(" for each( before it)?", "", told).split(", ")
             self.assertEqual(order_of(rules.listing((KEPT / in_code(case)).read_bytes())), order, where)
+
+    def test_status_behind_a_line(self):
+        heading, *lines = [re.split(" {2,}", line) for line in BLOCKS["statuses", ""]]
+        self.assertEqual(heading, ["control", "line", "status", "control after it"])
+        run, met = None, set()
+        for before, line, status, after in lines:
+            run = started(before)[0] if before else run
+            self.assertNotIsInstance(run.step(frames.judge_script_line(f"{line}\n".encode("ascii"), 1)), Refusal)
+            told = "41%02x" % rules.status(run.control)
+            self.assertEqual((told, control_text(run.control)), (status, after), (before, line))
+            met.add((told, bool(rules.offers(run.control))))
+        self.assertEqual(met, {("4100", True), ("4101", False), ("4102", True), ("4102", False)})
 
     def test_statuses(self):
         told = dict(re.findall("(0[0-2]) (live|ended|stuck)", dict(rows("form"))["`41 ss`"]))

@@ -8,7 +8,7 @@ import random
 import unittest
 
 from tests.generators import tables
-from tests.independent.frames import PARALLEL, SEQUENCE, Refusal, judge_table
+from tests.independent.frames import PARALLEL, SEQUENCE, STOP, Refusal, judge_table
 from tests.independent.rules import (
     ENDED, LIVE, OMEGA, STUCK, TAU, TICK, Run, Sides, Started, Tree, listing, offers, opened, outcome, play_listing,
     play_outcome, saved_text, status,
@@ -199,6 +199,16 @@ def operators(control):
     return operators(control.left) if isinstance(control, Started) else 0
 
 
+def leads_to_stop(control, address):
+    """Whether an address names the own step of a STOP in the control."""
+    control = opened(control)
+    if isinstance(control, Started):
+        return leads_to_stop(control.left, address)
+    if isinstance(control, Sides):
+        return address[0] in (1, 2) and leads_to_stop((control.left, control.right)[address[0] - 1], address[1:])
+    return isinstance(control, Tree) and control.term.kind == STOP
+
+
 def tried(run, *addresses):
     """The answers to some addresses and the text that is saved behind them; the run stays as it was."""
     mark, control, reference = run.track.mark(), run.control, run.reference
@@ -242,10 +252,20 @@ class EveryRun(unittest.TestCase):
         met = set()
         for run, accepted in small_runs(400, 8):
             self.assertEqual(offers(run.control), set(accepted.values()))
-            expected = ENDED if run.control == OMEGA else LIVE if accepted else STUCK
+            plainly = [address for address in accepted if not leads_to_stop(run.control, address)]
+            expected = ENDED if run.control == OMEGA else LIVE if plainly else STUCK
             self.assertEqual(status(run.control), expected)
-            met.add(expected)
-        self.assertEqual(met, {LIVE, ENDED, STUCK})
+            met.add((expected, bool(accepted)))
+        self.assertEqual(met, {(LIVE, True), (ENDED, False), (STUCK, True), (STUCK, False)})
+
+    def test_stuck_for_good(self):
+        stuck = None
+        for run, accepted in small_runs(100, 8):
+            if run is stuck:
+                self.assertEqual(status(run.control), STUCK)
+            if status(run.control) == STUCK:
+                self.assertLessEqual(set(accepted.values()), {TAU})
+                stuck = run
 
     def test_tracks(self):
         for run, _ in small_runs(400, 8):

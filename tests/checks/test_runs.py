@@ -10,7 +10,7 @@ from tests.generators import runs
 from tests.generators.families import DEFAULT_SEED
 from tests.independent.frames import ADDRESS_ROOM, SCRIPT_ROOM, Refusal, cut_input, judge_table
 from tests.independent.rules import (
-    ARC_ROOM, CELL_ROOM, MEETING_ROOM, NODE_ROOM, TAU, TICK, Derivation, cells, offers,
+    ARC_ROOM, CELL_ROOM, LIVE, MEETING_ROOM, NODE_ROOM, STUCK, TAU, TICK, Derivation, cells, offers, status,
 )
 
 OUTCOMES = {f"refused {number}" for number in (1, 2, 3, 7, 8, 9, 10, 11)} | {"live", "ended", "stuck"}
@@ -108,7 +108,7 @@ class Rooms(unittest.TestCase):
     def test_digits_of_an_address(self):
         inputs = [runs.by_a_long_address(random.Random(seed)).encode("ascii") for seed in range(30)]
         longest = b"20%04x" % ADDRESS_ROOM
-        whole = ("live", "refused 12")  # outcomes of scripts played to their ends: 12 is told of a track alone
+        whole = ("live", "stuck", "refused 12")  # outcomes of scripts played to their ends: 12 is told of a track alone
         accepted = [given for given in inputs if longest in given and runs.outcome(given) in whole]
         self.assertTrue(accepted)
 
@@ -118,6 +118,17 @@ class Rooms(unittest.TestCase):
             given = runs.by_the_room_for_script_text(random.Random(seed)).encode("ascii")
             lengths.add(len(cut_input(given)[1]))
         self.assertEqual(lengths, {SCRIPT_ROOM - 1, SCRIPT_ROOM, SCRIPT_ROOM + 1})
+
+
+class DeadEnds(unittest.TestCase):
+    """Runs until the plain rules have no step."""
+
+    def test_most_are_stuck_with_a_stop_that_can_step(self):
+        controls = [script.run.control for script in scripts(runs.until_dead, 60)]
+        self.assertNotIn(LIVE, map(status, controls))
+        standing = sum(status(control) == STUCK and offers(control) == {TAU} for control in controls)
+        self.assertTrue(30 < standing < 60, standing)
+        self.assertTrue(any(status(control) == STUCK and not offers(control) for control in controls))
 
 
 class Cases(unittest.TestCase):

@@ -20,7 +20,7 @@ step 1: silent step (τ)
 step 2: event 0
 step 3: silent step (τ)
 step 4: silent step (τ)
-status: stuck (nothing more can happen)
+status: stuck (dead: no cue can come any more; the script may still step a STOP)
 track: nodes 8, arcs 7, meetings 1
 node 0    left-hand side of definition 0           the start
 node 1    definition 0, the whole right-hand side  after 0
@@ -74,7 +74,7 @@ class Frames(unittest.TestCase):
         ])
 
     def test_statuses(self):
-        for number, word in enumerate(("live (more", "ended (came", "stuck (nothing")):
+        for number, word in enumerate(("live (more", "ended (came", "stuck (dead")):
             lines = told(f"41{number:02x}/" + CASE_A_TRACK)
             self.assertTrue(lines[0].startswith("status: " + word), lines[0])
             self.assertIn(words.REST_WORDS[number], lines)

@@ -24,7 +24,7 @@ from tests.independent.frames import (
     Refusal, judge_table,
 )
 from tests.independent.rules import (
-    ARC_ROOM, BOTTOM, CELL_ROOM, MEETING_ROOM, NODE_ROOM, OMEGA, TAU, TICK, Run, Sides, Started, cells, in_set,
+    ARC_ROOM, BOTTOM, CELL_ROOM, LIVE, MEETING_ROOM, NODE_ROOM, OMEGA, TAU, TICK, Run, Sides, Started, cells, in_set,
     opened,
 )
 
@@ -467,6 +467,17 @@ CASES = {
     "l-65": case(prefixes((0,) * 65, SKIPS)),  # refused
 }
 
+# document 02's W2: which runs are stuck
+WAITS_FOR_STOP = parallel(E0, E0_STOP, STOPS)
+STUCK_CASES = {
+    "w2-a": case(CASE_A, by=("3", "1"), events=1),  # a STOP stands, and has not stepped
+    "w2-prefix": case(E0_STOP, by=(), events=1),  # waits alone
+    "w2-apart": case(parallel(E0 | E1, E0_STOP, E1_STOP), by=()),  # each side waits for the other in vain
+    "w2-stop": case(WAITS_FOR_STOP, by=(), events=1),
+    "w2-stopped": case(WAITS_FOR_STOP, by=("2",), events=1),
+    "w2-call": case(call(0), by=(), events=0),
+}
+
 # the report's examples: a is event 00 and b event 01, MAIN definition 00 and P definition 01
 A_P = prefixes((0,), call(1))
 EXAMPLE_2 = parallel(E0, E0_STOP, choice(call(1), E0_STOP)), E1_SKIP  # Examples 3 and 6, too
@@ -484,7 +495,7 @@ FIGURES = {
 
 def of_a_case(rng):
     """A case or a figure's run as it stands, cut to its first steps (M has none), or with a step more."""
-    draft, addresses = rng.choice(list((CASES | FIGURES).values()))
+    draft, addresses = rng.choice(list((CASES | STUCK_CASES | FIGURES).values()))
     lines = [step_line(address) for address in addresses]
     lines = rng.choice((lines, lines, lines[: rng.randint(0, len(lines))], lines + [step_line([])]))
     return text_of(draft.lines + lines)
@@ -532,6 +543,36 @@ def in_deep_sequences(rng):
     called = (SKIPS, SKIPS, SKIPS, STOPS, sequence(SKIP_SKIP, SKIPS), call(0), sequence(call(0), SKIPS))
     script = Script(table_of(sequences.term, rng.choice(called)))
     walk(rng, script, rng.choice((20, 100, 200)))
+    return finished(rng, script)
+
+
+def until_dead(rng):
+    """A script of sides that stop, or wait for each other in vain, run until the plain rules have no step."""
+    parts = (
+        STOPS,
+        E0_STOP,
+        E1_STOP,
+        SKIPS,
+        E1_SKIP,
+        call(1),
+        sequence(E0_SKIP, STOPS),
+        choice(STOPS, E1_STOP),
+        choice(STOPS, STOPS),
+        [term_line(INTERNAL_CHOICE)] + STOPS + E0_STOP,
+    )
+    count = rng.randint(2, 8)
+    waits = lambda: term_line(PARALLEL, rng.choice((NO_EVENT, E0, E1, E0 | E1)))
+    wide = nest_of(rng, some_shape(rng, count), waits, rng.choices(parts, k=count))
+    script = Script(table_of(wide.term, rng.choice((STOPS, E0_STOP, sequence(SKIPS, STOPS)))))
+    while rules.status(script.run.control) == LIVE:
+        walk(rng, script, 1)
+    return script
+
+
+def to_a_dead_end(rng):
+    """A run that is stuck, and behind that steps of some STOPs that are left."""
+    script = until_dead(rng)
+    walk(rng, script, rng.choice((0, 0, 1, 2, 8)))
     return finished(rng, script)
 
 
@@ -866,14 +907,15 @@ def by_the_room_for_script_text(rng):
 
 # how many of a hundred inputs are of each family
 SHARES = {
-    of_all_kinds: 20,
-    that_ends: 14,
+    of_all_kinds: 16,
+    that_ends: 12,
     that_meets: 10,
     of_any_table: 8,
     as_judged: 5,
     of_a_case: 6,
     in_many_sides: 6,
     in_deep_sequences: 6,
+    to_a_dead_end: 6,
     of_many_events: 6,
     by_a_long_address: 4,
     by_the_room_for_meetings: 4,

@@ -1,6 +1,6 @@
-"""The independent program's rules: document 01's steps, offers, status and rooms, and its saved track.
+"""The independent program's rules: document 01's steps, offers and rooms, its saved track, and document 02's status.
 
-It is written from document 01 and the report's Fig. 7, and shares nothing with the crates. A step changes one
+It is written from these documents and the report's Fig. 3 and 7, and shares nothing with the crates. A step changes one
 track in place and takes back what it added where it is refused. `listing` gives what document 01's tracking
 program prints for an input, and `play_listing` what the program play prints, which is the inside of the run:
 
@@ -16,7 +16,7 @@ if __name__ == "__main__":  # as a command, too, packages are found from the rep
     sys.path[0] = str(pathlib.Path(__file__).resolve().parents[2])
 
 from tests.independent.frames import (
-    CALL, EXTERNAL_CHOICE, INTERNAL_CHOICE, KINDS, PARALLEL, PREFIX, SCRIPT_ROOM, SEQUENCE, SKIP, STOP,
+    CALL, EXTERNAL_CHOICE, INTERNAL_CHOICE, KINDS, MOST_EVENTS, PARALLEL, PREFIX, SCRIPT_ROOM, SEQUENCE, SKIP, STOP,
     Refusal, Term, cut_input, event_place, judge_script_line, judge_table, left_hand_side, split_lines,
 )
 
@@ -271,10 +271,31 @@ def offers(control):
     return {{PREFIX: control.term.payload, SKIP: TICK}.get(control.term.kind, TAU)}
 
 
+def plain_step(control, event):
+    """Whether Fig. 3 has a step by the event from the control, stripped: references and places apart, bottom a STOP."""
+    control = opened(control)
+    if isinstance(control, Started):
+        hidden = event == TAU and plain_step(control.left, TICK)
+        return hidden or event != TICK and plain_step(control.left, event)
+    if isinstance(control, Sides):
+        sides = (control.left, control.right)
+        if control.term.kind == EXTERNAL_CHOICE:
+            return any(plain_step(side, event) for side in sides)
+        if event == TICK:
+            return sides == (OMEGA, OMEGA)
+        if in_set(event, control.term):
+            return all(plain_step(side, event) for side in sides)
+        by = (TAU, TICK) if event == TAU else (event,)
+        return any(plain_step(side, shown) for side in sides for shown in by)
+    if control in (OMEGA, BOTTOM) or control.term.kind == STOP:
+        return False
+    return event == {PREFIX: control.term.payload, SKIP: TICK}.get(control.term.kind, TAU)
+
+
 def status(control):
     if control == OMEGA:
         return ENDED
-    return LIVE if offers(control) else STUCK
+    return LIVE if any(plain_step(control, event) for event in (TAU, TICK, *range(MOST_EVENTS))) else STUCK
 
 
 # ---- a run

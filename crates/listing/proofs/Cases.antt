@@ -1,5 +1,5 @@
--- Document 01's cases A to H, K and M, from input to output, by computation: one table, and one statement over
--- it and over further inputs that are refused. A text is written as document 01 writes its case A, with `/` for
+-- Document 01's cases A to H, K and M, and those of document 02's W2, from input to output, by computation: one table
+-- for each, and one statement over them and over further inputs that are refused. A text is written as document 01 writes its case A, with `/` for
 -- LF. Case A is document 01's own text; every other output comes from the independent program. Assumes nothing.
 use Prim.Native.String.{String, _++_}
 use mathlib.Core.Path.{_≡_, refl}
@@ -22,7 +22,7 @@ use Rattle.rules.specs.Step.{one-side, by-side, same, both-sides, with-right, i
 use Rattle.rules.specs.Step.{then, step}
 use Rattle.rules.specs.Run.{after, over-room, whole, answer}
 use Rattle.rules.specs.Run as Run
-use Rattle.rules.specs.Offers.{leaf-offers, offers-✓, offers-τ, offers-event, offers-some, status}
+use Rattle.rules.specs.Offers.{leaf-offers, offers-✓, offers-event, offers-some, plain-τ, moves, status}
 use Rattle.rules.specs.Addressed.{digit-of, with-digit, answered, address-of}
 use Rattle.graphs.specs.Graph.{present, keep, heads, on-side, next, joins}
 use Rattle.graphs.specs.Walk.{among, walk, order}
@@ -73,29 +73,29 @@ cases =
     -- B. the same, by 3, 2, 1
     ∷ case (table-A ++ "200000/20000103/20000102/20000101/") listed-A
     -- C. (e0→STOP) ∥ (e1→STOP), empty set, by 1, 2
-    ∷ case (table-C ++ "200000/20000101/20000102/") ("4000/400200/400201/4100/" ++ track-C)
+    ∷ case (table-C ++ "200000/20000101/20000102/") ("4000/400200/400201/4102/" ++ track-C)
     -- C. the same, by 2, 1
-    ∷ case (table-C ++ "200000/20000102/20000101/") ("4000/400201/400200/4100/" ++ track-C)
+    ∷ case (table-C ++ "200000/20000102/20000101/") ("4000/400201/400200/4102/" ++ track-C)
     -- D. SKIP ∥ SKIP by 1, 2, 4
     ∷ case "10010100/1100/12060000000000000000/1207/1207/1f0003/200000/20000101/20000102/20000104/"
     ("4000/4000/4000/4001/4101/3001000400030000/310000000100/3100010000/310002000101/310003000102/"
     ++ "3200000001/3200010002/3200010003/3f/")
     -- E. (SKIP ∥ SKIP);STOP by 1, 2, 4
     ∷ case "10010100/1100/1205/12060000000000000000/1207/1207/1208/1f0005/200000/20000101/20000102/20000104/"
-    ("4000/4000/4000/4000/4100/3001000500050000/310000000100/310001000101/31000200020101/3100030000/"
+    ("4000/4000/4000/4000/4102/3001000500050000/310000000100/310001000101/31000200020101/3100030000/"
     ++ "31000400020102/3200000001/3200010002/3200010004/3200020003/3200040003/3f/")
     -- F. SKIP □ (e0→STOP) by 1
     ∷ case "10010101/1100/1204/1207/120200/1208/1f0004/200000/20000101/"
     ("4000/4001/4101/3001000300020000/310000000100/3100010000/310002000101/3200000001/3200010002/3f/")
     -- G. C □ (e0→STOP), C = e1→SKIP, by 1, 2
     ∷ case "10010202/1100/1204/120101/120200/1208/1101/120201/1207/1f0006/200000/20000101/20000102/"
-    ("4000/4000/400200/4100/3001000500040000/310000000100/3100010000/310002000101/31000300020201/"
+    ("4000/4000/400200/4102/3001000500040000/310000000100/3100010000/310002000101/31000300020201/"
     ++ "310004000102/3200000001/3200010002/3200010003/3200030004/3f/")
     -- H. ((e0→STOP) ∥ (e0→STOP)) ∥ (e0→STOP), both sets e0, by the one address 3 3
     ∷ case
     ("10010101/1100/12060000000000000001/12060000000000000001/120200/1208/120200/1208/120200/1208/1f0008/"
     ++ "200000/2000020303/")
-    ("4000/400200/4100/3001000900080003/310000000100/3100010000/310002000101/3100030003010101/"
+    ("4000/400200/4102/3001000900080003/310000000100/3100010000/310002000101/3100030003010101/"
     ++ "31000400020101/3100050003010201/31000600020102/31000700020201/310008000102/3200000001/3200010002/"
     ++ "3200010007/3200020003/3200020005/3200030004/3200050006/3200070008/3300030005/3300030007/3300050007/3f/")
     -- K. (e0→STOP) ∥ (e1→STOP) on e0, by 1
@@ -104,10 +104,33 @@ cases =
     ∷ case (table-K ++ "200000/20000103/") "4000/4100/4e070002/3001000100000000/310000000100/3f/"
     -- K. the same, by 2
     ∷ case (table-K ++ "200000/20000102/")
-    ("4000/400201/4100/3001000400030000/310000000100/3100010000/31000200020201/310003000102/3200000001/"
+    ("4000/400201/4102/3001000400030000/310000000100/3100010000/31000200020201/310003000102/3200000001/"
     ++ "3200010002/3200020003/3f/")
     -- M. A's table, and no script line
     ∷ case table-A "4100/3001000000000000/3f/"
+    ∷ []
+
+-- what a run of the first call alone saves
+called : String
+called = "3001000100000000/310000000100/3f/"
+
+-- document 02, W2: which runs are stuck
+pub stuck-cases : List Case
+stuck-cases =
+    -- A cut after its third script line: a STOP stands, and has not stepped
+    case (table-A ++ "200000/20000103/20000101/")
+    ("4000/400200/4000/4102/3001000700060001/310000000100/3100010000/31000200020101/310003000101/31000400020102/"
+    ++ "31000500020201/310006000102/3200000001/3200010002/3200010005/3200020003/3200030004/3200050006/3300020005/3f/")
+    -- a prefix that waits alone
+    ∷ case "10010101/1100/120200/1208/1f0002/200000/" ("4000/4100/" ++ called)
+    -- a parallel whose sides wait for events of the set that the other does not offer
+    ∷ case "10010102/1100/12060000000000000003/120200/1208/120201/1208/1f0005/200000/" ("4000/4102/" ++ called)
+    -- one whose other side is a STOP, which has not stepped, and which has
+    ∷ case "10010101/1100/12060000000000000001/120200/1208/1208/1f0004/200000/" ("4000/4102/" ++ called)
+    ∷ case "10010101/1100/12060000000000000001/120200/1208/1208/1f0004/200000/20000102/"
+    "4000/4000/4102/3001000300020000/310000000100/3100010000/310002000102/3200000001/3200010002/3f/"
+    -- a call
+    ∷ case "10010100/1100/120100/1f0001/200000/" ("4000/4100/" ++ called)
     ∷ []
 
 -- A's first two steps and their status, what a refused line tells, and the track that they leave
@@ -143,17 +166,17 @@ further =
 
 -- each of the inputs is listed as the output that stands beside it
 pub cases-listed
-    : map (λ (c : Case). listing (typed (c .given))) (cases ++ᴸ further)
-    ≡ map (λ (c : Case). typed (c .expected)) (cases ++ᴸ further)
+    : map (λ (c : Case). listing (typed (c .given))) (cases ++ᴸ stuck-cases ++ᴸ further)
+    ≡ map (λ (c : Case). typed (c .expected)) (cases ++ᴸ stuck-cases ++ᴸ further)
 unfolding
-    typed case table-A listed-A table-C track-C table-K cases stopped-A further digit before lines pair bytes
+    typed case table-A listed-A table-C track-C table-K cases called stuck-cases stopped-A further digit before lines pair bytes
     frame characters number-from character hex text well-formed all-digits in-range asked known payload-bytes
     subterms member frame-of limit longest refusal first-refusal closes next-due seen taken at-end at-line
     judged-from whole-at number-met stage-behind judged leaf-of operator-of grown trees begins under joined
     untouched right-side cells lookup labelled prefixed first-eval around each-with meet jointly carried
     started leads parents ended one-side by-side same both-sides with-right in-sequence by-left at-Ω then
-    step after over-room Run.within-room whole Run.answered answer leaf-offers offers-✓ offers-τ
-    offers-event offers-some status digit-of with-digit answered present keep heads on-side next joins
+    step after over-room Run.within-room whole Run.answered answer leaf-offers offers-✓
+    offers-event offers-some plain-τ moves status digit-of with-digit answered present keep heads on-side next joins
     among walk order placed numbered row rows rows-up canonical two opening-frame node-frame pair-frame
     frames starts-1f extent table-length table-text script-text step-frame status-frame refusal-frame
     address-of line-answer goes-on played end-frames within-room run-listing table-listing listing

@@ -1,9 +1,10 @@
-// What is offered, as a value: whether τ and ✓ are, and which events; what a term offers by its own kind, what two sides
-// offer together, and ✓ told as τ. No words are read. It relies on sets of events, and on the numbers that a plan has for
+// What is offered, as a value: whether τ and ✓ are, which events, and whether τ is by the plain rules; what a term offers
+// by its own kind, what two sides offer together, and ✓ told as τ. No words are read. It relies on sets of events, and on the numbers that a plan has for
 // kinds.
 use plans::PARALLEL_WORD;
 use plans::PREFIX_WORD;
 use plans::SKIP_WORD;
+use plans::STOP_WORD;
 use sets::either;
 use sets::only;
 use sets::shared;
@@ -11,26 +12,37 @@ ghost use mathlib.Core.Path.{_≡_};
 ghost use Rattle.offering.specs.code.Offering as code;
 ghost use Rattle.offering.specs.code.Offering.{seen};
 
-// Whether τ and ✓ are offered, and which events.
+// Whether τ and ✓ are offered, and which events; and whether the plain rules have a τ, which STOP is none of.
 pub struct Offered {
     pub tau: bool,
+    pub plain: bool,
     pub tick: bool,
     pub events: u64,
 }
 
-// What a term offers by its own kind: a prefix its event, SKIP ✓, a call, STOP and an internal choice τ.
+// What a term offers by its own kind: a prefix its event, SKIP ✓, a call, STOP and an internal choice τ, of which the
+// plain rules lack STOP's.
 pub fn own(kind: usize, operand: usize) -> Offered
     ensures { λ r. ⌜ seen r ≡ code.own kind operand ⌝ }
 {
     if kind == PREFIX_WORD {
         return Offered {
             tau: false,
+            plain: false,
             tick: false,
             events: only((operand % 256) as u8),
         };
     }
     if kind == SKIP_WORD {
         return unseen(false, true);
+    }
+    if kind == STOP_WORD {
+        return Offered {
+            tau: true,
+            plain: false,
+            tick: false,
+            events: 0,
+        };
     }
     unseen(true, false)
 }
@@ -43,12 +55,14 @@ pub fn combined(kind: usize, set: u64, both: bool, l: Offered, r: Offered) -> Of
     if kind == PARALLEL_WORD {
         return Offered {
             tau: (l.tau | l.tick) | (r.tau | r.tick),
+            plain: (l.plain | l.tick) | (r.plain | r.tick),
             tick: both,
             events: shared(set, l.events, r.events),
         };
     }
     Offered {
         tau: l.tau | r.tau,
+        plain: l.plain | r.plain,
         tick: l.tick | r.tick,
         events: either(l.events, r.events),
     }
@@ -61,6 +75,7 @@ pub fn settled(nested: bool, o: Offered) -> Offered
     if nested {
         return Offered {
             tau: o.tau | o.tick,
+            plain: o.plain | o.tick,
             tick: false,
             events: o.events,
         };
@@ -68,12 +83,13 @@ pub fn settled(nested: bool, o: Offered) -> Offered
     o
 }
 
-// No visible event.
+// No visible event, and no STOP.
 pub fn unseen(tau: bool, tick: bool) -> Offered
     ensures { λ r. ⌜ seen r ≡ code.unseen tau tick ⌝ }
 {
     Offered {
         tau: tau,
+        plain: tau,
         tick: tick,
         events: 0,
     }

@@ -8,7 +8,7 @@ use borrow.Author.Tests.{ne-eqb}
 use Rattle.rules.specs.Process.{Process}
 use Rattle.rules.specs.Run.{cell-room}
 use Rattle.rules.specs.Step.{at-Ω}
-use Rattle.rules.specs.Offers.{leaf-offers, offers-τ, offers-✓, offers-event}
+use Rattle.rules.specs.Offers.{leaf-offers, offers-τ, offers-✓, offers-event, plain-τ}
 use Rattle.plans.specs.words.Plan.{Layout}
 use Rattle.offering.specs.declared.Offered.{Offered}
 use Rattle.offering.specs.code.Offering.{Offer, seen, settled}
@@ -20,7 +20,7 @@ use Rattle.offers.proofs.Standing.{nested, beyond-bound, ended-told, of
 module _ (l : Layout) (p x w : List ℕ) (low : Low l) where
   -- a run's control has its offers, and its end
   pub run-offers : (n : ℕ) (P : Process) → Controls l p x w n P → offered p x w n ≡ offer-of P
-  unfolding offered leaf-offers offers-τ offers-✓ offers-event nested settled
+  unfolding offered leaf-offers offers-τ offers-✓ offers-event plain-τ nested settled
   run-offers n P (starts z e) = rw (z, e)
   run-offers n P (stands h m) =
       let above = beyond-bound l p x w P n 0 [] h in
@@ -36,6 +36,7 @@ module _ (l : Layout) (p x w : List ℕ) (low : Low l) where
   run-tells n P r told c =
       let same = told ∙ run-offers n P c in record {
         tau-is = ap (λ (o : Offer). o .tau) same;
+        plain-is = ap (λ (o : Offer). o .plain) same;
         tick-is = ap (λ (o : Offer). o .tick) same;
         events-are = λ k. ap (λ (o : Offer). o .event k) same;
       }

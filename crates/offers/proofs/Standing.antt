@@ -18,7 +18,7 @@ use Rattle.columns.proofs.Laws.{look-in}
 use Rattle.rules.specs.Process.{Process, leaf, prefix, internal, split, sequence, Ω, ⊥′, Split, choice}
 use Rattle.rules.specs.Process.{together, cells}
 use Rattle.rules.specs.Step.{at-Ω}
-use Rattle.rules.specs.Offers.{offers-τ, offers-✓, offers-event}
+use Rattle.rules.specs.Offers.{offers-τ, offers-✓, offers-event, plain-τ}
 use Rattle.plans.specs.words.Plan.{Layout, kind, second, around}
 use Rattle.control.specs.words.Control.{state, term, frame, first, second-side, at-end, inside, split-kind}
 use Rattle.control.specs.words.Control.{split-set, Around, Untouched, Rests, Splits, HoldsControl}
@@ -57,34 +57,33 @@ settled-nothing false = refl
 
 settled-twice : (b : Bool) (o : Offer) → settled true o ≡ settled b (settled true o)
 unfolding settled
-settled-twice true o = go (o .tau) (o .tick)
+settled-twice true o = rw (once (o .tau) (o .tick), once (o .plain) (o .tick))
   where
-    go : (a c : Bool) → _≡_ {A = Offer} (record { tau = a || c; tick = false; event = o .event })
-        (record { tau = (a || c) || false; tick = false; event = o .event })
-    go true c = refl
-    go false true = refl
-    go false false = refl
+    once : (a c : Bool) → (a || c) || false ≡ (a || c)
+    once true c = refl
+    once false true = refl
+    once false false = refl
 settled-twice false o = refl
 
 -- an entered sequence's offers are its left's, inside one sequence more; Ω and ⊥ offer nothing
 within-sequence : (v : Place) (P Q : Process) (k : ℕ) (ks : List ℕ)
     → settled (nested (k ∷ ks)) (offer-of P) ≡ settled (nested ks) (offer-of (sequence v true P Q))
-unfolding nested settled offers-τ offers-✓ offers-event
+unfolding nested settled offers-τ offers-✓ offers-event plain-τ
 within-sequence v P Q k ks = settled-twice (nested ks) (offer-of P)
 
 nothing-Ω : (ks : List ℕ) → settled (nested ks) (unseen false false) ≡ settled (nested ks) (offer-of Ω)
-unfolding offers-τ offers-✓ offers-event
+unfolding offers-τ offers-✓ offers-event plain-τ
 nothing-Ω ks = refl
 
 nothing-⊥ : (ks : List ℕ) → settled (nested ks) (unseen false false) ≡ settled (nested ks) (offer-of ⊥′)
-unfolding offers-τ offers-✓ offers-event
+unfolding offers-τ offers-✓ offers-event plain-τ
 nothing-⊥ ks = refl
 
 -- two sides together
 sides-told : (v : Place) (k : Split) (m n : Option ℕ) (P Q : Process)
     → combined (split-kind k) (split-set k) (at-Ω P && at-Ω Q) (offer-of P) (offer-of Q)
     ≡ offer-of (split v k m n P Q)
-unfolding combined split-kind split-set offers-τ offers-✓ offers-event
+unfolding combined split-kind split-set offers-τ offers-✓ offers-event plain-τ
 sides-told v choice m n P Q = refl
 sides-told v (together y) m n P Q = refl
 

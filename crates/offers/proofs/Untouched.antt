@@ -22,7 +22,7 @@ use Rattle.columns.specs.words.Columns.{look}
 use Rattle.columns.proofs.Laws.{look-in}
 use Rattle.rules.specs.Process.{below, joined, untouched}
 use Rattle.rules.specs.Step.{at-Ω}
-use Rattle.rules.specs.Offers.{leaf-offers, offers-τ, offers-✓, offers-event}
+use Rattle.rules.specs.Offers.{leaf-offers, offers-τ, offers-✓, offers-event, plain-τ}
 use Rattle.plans.specs.words.Plan.{Layout, word, kind, operand, second, Planned, first-around, second-around}
 use Rattle.offering.specs.code.Offering.{Offer, own, settled, combined}
 use Rattle.offering.proofs.Returns.{same-offers}
@@ -63,24 +63,24 @@ longer q v d h = ap (λ (r : Place). length (r .path)) h ∙ length-append (v .p
 -- by its kind, its operand, its set and what its subterms offer, a term offers what it does before any step
 leaf-told : (v : Place) (f : Leaf) (e y : ℕ) (l r : Offer)
     → by-kind (leaf-kind f) e y l r ≡ offer-of (untouched v (Term.leaf f))
-unfolding by-kind own leaf-kind leaf-offers offers-τ offers-✓ offers-event untouched
+unfolding by-kind own leaf-kind leaf-offers offers-τ offers-✓ offers-event plain-τ untouched
 leaf-told v (call d) e y l r = refl
 leaf-told v SKIP e y l r = refl
 leaf-told v STOP e y l r = refl
 
 prefix-told : (v : Place) (e y : ℕ) (t : Term) (l r : Offer) → e < event-room
     → by-kind Kind.prefix e y l r ≡ offer-of (untouched v (Term.prefix e t))
-unfolding by-kind own offers-τ offers-✓ offers-event untouched
+unfolding by-kind own offers-τ offers-✓ offers-event plain-τ untouched
 prefix-told v e y t l r h =
     let byte : e < 256 = omega arith in
-    same-offers false false _ _ (λ k. simp (mod-eq-of-lt byte, lt-ltb e event-room h))
+    same-offers false false false _ _ (λ k. simp (mod-eq-of-lt byte, lt-ltb e event-room h))
 
 binary-told : (v : Place) (o : Operator) (e : ℕ) (t u : Term)
     → by-kind (operator-kind o) e (operator-payload o)
     (offer-of (untouched (below v 1) t)) (offer-of (untouched (below v 2) u))
     ≡ offer-of (untouched v (Term.binary o t u))
 unfolding by-kind own combined settled operator-kind operator-payload
-    offers-τ offers-✓ offers-event untouched joined
+    offers-τ offers-✓ offers-event plain-τ untouched joined
 binary-told v Term.internal e t u = refl
 binary-told v external e t u = refl
 binary-told v Term.sequence e t u = refl

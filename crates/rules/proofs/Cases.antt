@@ -1,6 +1,6 @@
--- Document 01's runs A to H and K, played by computation: events, status, how many nodes, saved arcs, arcs made
--- and meetings the track has, the place of reference 2, which C speaks of, and the refusal. One statement for
--- all. Assumes nothing.
+-- Document 01's runs A to H and K, and what document 02's W2 says of a status, played by computation: events, status,
+-- how many nodes, saved arcs, arcs made and meetings the track has, the place of reference 2, which C speaks of, and
+-- the refusal. One statement for all. Assumes nothing.
 use Prim.Native.Nat.{ℕ, suc}
 use mathlib.Core.Path.{_≡_, refl}
 use mathlib.Core.Bool.{Bool, false, _&&_, _||_}
@@ -23,7 +23,7 @@ use Rattle.rules.specs.Run.{State, start, after, over-room, Answer, acce
 use Rattle.rules.specs.Run.{whole, answered, answer}
 use Rattle.rules.specs.declared.Status.{Status}
 use Rattle.rules.specs.declared.Status.the-variants.{Live as live, Ended, Stuck as stuck}
-use Rattle.rules.specs.Offers.{leaf-offers, offers-✓, offers-τ, offers-event, offers-some, status}
+use Rattle.rules.specs.Offers.{leaf-offers, offers-✓, offers-event, offers-some, plain-τ, moves, status}
 
 -- a label of a reference
 labels-it : List Label → ℕ → Bool
@@ -106,6 +106,14 @@ runs =
     ∷ run 2 (binary (parallel 1) (stopping 0) (stopping 1) ∷ []) ((one ∷ []) ∷ [])
     ∷ run 2 (binary (parallel 1) (stopping 0) (stopping 1) ∷ []) ((three ∷ []) ∷ [])
     ∷ run 2 (binary (parallel 1) (stopping 0) (stopping 1) ∷ []) ((two ∷ []) ∷ [])
+    -- W2: A cut after its third script line; a prefix that waits alone; a parallel whose sides wait for events of
+    -- the set that the other does not offer, and with a STOP for one side, before its step and behind it; a call
+    ∷ run 1 (binary (parallel 1) (prefix 0 (leaf SKIP)) (stopping 0) ∷ []) ((three ∷ []) ∷ (one ∷ []) ∷ [])
+    ∷ run 1 (stopping 0 ∷ []) []
+    ∷ run 2 (binary (parallel 3) (stopping 0) (stopping 1) ∷ []) []
+    ∷ run 1 (binary (parallel 1) (stopping 0) (leaf STOP) ∷ []) []
+    ∷ run 1 (binary (parallel 1) (stopping 0) (leaf STOP) ∷ []) ((two ∷ []) ∷ [])
+    ∷ run 0 (leaf (call 0) ∷ []) []
     ∷ []
 
 told : List Event → Status → ℕ → ℕ → ℕ → ℕ → Option Place → ℕ → Told
@@ -121,16 +129,22 @@ outcomes =
     told (τ ∷ visible 0 ∷ τ ∷ τ ∷ []) stuck 8 7 9 1 (placed (1 ∷ 1 ∷ [])) 0
     ∷ told (τ ∷ visible 0 ∷ τ ∷ τ ∷ []) stuck 8 7 9 1 (placed (1 ∷ 1 ∷ [])) 0
     -- C: "reference 2 is e0's in the first order and e1's in the second": e0 is at 1.1, and e1 at 2.1
-    ∷ told (τ ∷ visible 0 ∷ visible 1 ∷ []) live 6 5 7 0 (placed (1 ∷ 1 ∷ [])) 0
-    ∷ told (τ ∷ visible 1 ∷ visible 0 ∷ []) live 6 5 7 0 (placed (2 ∷ 1 ∷ [])) 0
+    ∷ told (τ ∷ visible 0 ∷ visible 1 ∷ []) stuck 6 5 7 0 (placed (1 ∷ 1 ∷ [])) 0
+    ∷ told (τ ∷ visible 1 ∷ visible 0 ∷ []) stuck 6 5 7 0 (placed (2 ∷ 1 ∷ [])) 0
     ∷ told (τ ∷ τ ∷ τ ∷ ✓ ∷ []) Ended 4 3 7 0 (placed (1 ∷ [])) 0
-    ∷ told (τ ∷ τ ∷ τ ∷ τ ∷ []) live 5 5 8 0 (placed (1 ∷ 1 ∷ [])) 0
+    ∷ told (τ ∷ τ ∷ τ ∷ τ ∷ []) stuck 5 5 8 0 (placed (1 ∷ 1 ∷ [])) 0
     ∷ told (τ ∷ ✓ ∷ []) Ended 3 2 3 0 (placed (1 ∷ [])) 0
-    ∷ told (τ ∷ τ ∷ visible 0 ∷ []) live 5 4 6 0 (placed (1 ∷ [])) 0
-    ∷ told (τ ∷ visible 0 ∷ []) live 9 8 11 3 (placed (1 ∷ [])) 0
+    ∷ told (τ ∷ τ ∷ visible 0 ∷ []) stuck 5 4 6 0 (placed (1 ∷ [])) 0
+    ∷ told (τ ∷ visible 0 ∷ []) stuck 9 8 11 3 (placed (1 ∷ [])) 0
     ∷ told (τ ∷ []) live 1 0 1 0 none 7
     ∷ told (τ ∷ []) live 1 0 1 0 none 7
-    ∷ told (τ ∷ visible 1 ∷ []) live 4 3 4 0 (placed (2 ∷ 1 ∷ [])) 0
+    ∷ told (τ ∷ visible 1 ∷ []) stuck 4 3 4 0 (placed (2 ∷ 1 ∷ [])) 0
+    ∷ told (τ ∷ visible 0 ∷ τ ∷ []) stuck 7 6 8 1 (placed (1 ∷ 1 ∷ [])) 0
+    ∷ told (τ ∷ []) live 1 0 1 0 none 0
+    ∷ told (τ ∷ []) stuck 1 0 1 0 none 0
+    ∷ told (τ ∷ []) stuck 1 0 1 0 none 0
+    ∷ told (τ ∷ τ ∷ []) stuck 3 2 3 0 (placed (2 ∷ [])) 0
+    ∷ told (τ ∷ []) live 1 0 1 0 none 0
     ∷ []
 
 pub cases-played : runs ≡ outcomes
@@ -138,5 +152,5 @@ unfolding
     labels-it saved play ran tell run stopping runs told placed outcomes joined untouched right-side cells
     lookup labelled prefixed first-eval around each-with meet jointly carried started leads parents ended member
     one-side by-side same both-sides with-right in-sequence by-left at-Ω then step after over-room
-    within-room whole answered answer leaf-offers offers-✓ offers-τ offers-event offers-some status
+    within-room whole answered answer leaf-offers offers-✓ offers-event offers-some plain-τ moves status
 cases-played = refl

@@ -25,7 +25,7 @@ use Rattle.rules.specs.Plain.{skip, external-choice-1, external-choice-3
 use Rattle.rules.specs.Plain as Fig3
 use Rattle.rules.specs.Step.{one-side, by-side, same, both-sides, with-right, at-Ω, then, step}
 use Rattle.rules.specs.Run.{after, over-room, within-room, whole, answered, answer}
-use Rattle.rules.specs.Offers.{leaf-offers, offers-✓, offers-τ, offers-event, offers-some, status}
+use Rattle.rules.specs.Offers.{leaf-offers, offers-✓, offers-event, offers-some, plain-τ, moves, status}
 use Rattle.rules.proofs.Cases.{Ran, play, ran}
 
 -- Examples 2, 3 and 6: MAIN = (a→STOP) ∥{a} (P □ (a→STOP)), P = b→SKIP
@@ -193,7 +193,7 @@ unfolding
     example-2 example-5 example-7 in-MAIN in-P node fig-4 fig-5 fig-6 fig-9 runs figures final-4 play ran
     joined untouched right-side cells labelled prefixed first-eval around each-with meet jointly member one-side
     by-side same both-sides with-right at-Ω then step after over-room within-room whole answered answer
-    leaf-offers offers-✓ offers-τ offers-event offers-some status operator strip
+    leaf-offers offers-✓ offers-event offers-some plain-τ moves status operator strip
 report-examples = (refl, refl, refl)
 
 -- a computation by the rules of Fig. 3

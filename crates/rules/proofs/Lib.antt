@@ -1,8 +1,8 @@
 -- Laws of the report's rules: `Derived`, the step of an address is the derivation that it names; `Answered`,
 -- when an address is accepted and which refusal it meets otherwise; `Quiet`, a step of τ or ✓ has no event
 -- nodes; `Stripped`, what a step is with tracking stripped; `Offered`, offers are the derivations' events;
--- `Stuck`, what a status says of the derivations; what every run keeps: `Ranged`, calls and events in range
--- of the table; `Drawn`, arcs into each side, and the rooms; `Marked`, no reference labelled twice;
+-- `Plainly`, which of them the plain rules have; `Stuck`, what a status says of the plain rules and of the
+-- derivations; what every run keeps: `Ranged`, calls and events in range of the table; `Drawn`, arcs into each side, and the rooms; `Marked`, no reference labelled twice;
 -- `Climbing`, arcs to larger references, into each but 0; `Drawing`, a fresh reference drawn by each step;
 -- `Meetings`, meetings made once, between labelled event nodes of one event; `Holding`, no reference held twice;
 -- `Placed`, literals at their places, and Ω at the top or beside a parallel; `Weighed`, what control weighs, and
@@ -15,6 +15,7 @@ pub mod Answered
 pub mod Quiet
 pub mod Stripped
 pub mod Offered
+pub mod Plainly
 pub mod Stuck
 pub mod Ranged
 pub mod Drawn

@@ -148,7 +148,7 @@ is-Ω Ω e = refl
 is-Ω ⊥′ e = let z : _≡_ {A = ℕ} 0 1 = cc in absurd (omega arith)
 
 -- events apart
-τ-no-✓ : τ ≡ ✓ → ⊥
+pub τ-no-✓ : τ ≡ ✓ → ⊥
 τ-no-✓ e = let z : _≡_ {A = ℕ} 0 1 = cc in omega arith
 
 visible-no-✓ : (k : ℕ) → visible k ≡ ✓ → ⊥

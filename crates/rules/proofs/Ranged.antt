@@ -1,7 +1,8 @@
 -- Control stays in range of its table: where every definition calls one of d definitions and has events below
 -- e, so does every control of a run, since a step leaves parts of what it stepped from or a definition's
--- right-hand side, and control starts as a call of definition 00. So its events are among the table's, and the
--- table has every definition that it calls. Assumes nothing.
+-- right-hand side, and control starts as a call of definition 00. So its events are among the table's, a status
+-- says of every run what it says of a control with such events, and the table has every definition that control
+-- calls. Assumes nothing.
 use Prim.Native.Nat.{ℕ, zero, suc, _<_}
 use mathlib.Core.Path.{_≡_, refl, subst}
 use mathlib.Core.List.{List, [], _∷_}
@@ -21,12 +22,16 @@ use Rattle.rules.specs.Tracking.{external-choice-3, external-choice-4, s
 use Rattle.rules.specs.Tracking.{sequential-composition-2, synchronized-parallelism-1}
 use Rattle.rules.specs.Tracking.{synchronized-parallelism-2, synchronized-parallelism-3}
 use Rattle.rules.specs.Tracking.{synchronized-parallelism-4}
-use Rattle.rules.specs.Run.{State, after, refused, answer, Reached, begun, goes-on}
-use Rattle.rules.specs.declared.Status.the-variants.{Stuck as stuck}
+use Rattle.rules.specs.Run.{State, after, accepted, refused, answer, Reached, begun, goes-on}
+use Rattle.rules.specs.Plain.{strip, Moves}
+use Rattle.rules.specs.Stopping.{LeadsToSTOP}
+use Rattle.rules.specs.declared.Event.{Event}
+use Rattle.rules.specs.declared.Event.the-variants.{Tau as τ}
+use Rattle.rules.specs.declared.Status.the-variants.{Live as live, Stuck as stuck}
 use Rattle.rules.specs.Offers.{status}
 use Rattle.rules.proofs.Answered.{accepted-exactly}
 use Rattle.rules.specs.Derivation.{Among}
-use Rattle.rules.proofs.Stuck.{stuck-answered}
+use Rattle.rules.proofs.Stuck.{stuck-exactly, live-exactly, stuck-answered, stuck-accepted}
 
 -- every call of a control is of one of d definitions, and every event is one of e
 abbrev pub Ranged : ℕ → ℕ → Process → Type 0
@@ -102,12 +107,28 @@ ranged-among d e (sequence w b P Q) h = (ranged-among d e P (h .0), ranged-among
 ranged-among d e Ω h = tt
 ranged-among d e ⊥′ h = tt
 
--- so a run is stuck exactly when it is not at Ω and every address is answered 7
-pub reached-stuck : (d e : ℕ) (ts : List Term) → ((n : ℕ) (t : Term) → getElem? ts n ≡ some t → Within d e t) → 0 < d
-    → (s : State) → Reached ts s
-    → (status e (s .process) ≡ stuck) ↔ ((s .process ≡ Ω → ⊥) × ((a : Address) → answer ts s a ≡ refused 7))
-reached-stuck d e ts within z s h =
-    stuck-answered ts e s (ranged-among d e (s .process) (reached-ranged d e ts within z h))
+-- what a status says of a state that accepted steps of a table reach, whose definitions are within
+module _ (d e : ℕ) (ts : List Term) (within : (n : ℕ) (t : Term) → getElem? ts n ≡ some t → Within d e t) (some : 0 < d)
+    (s : State) (h : Reached ts s) where
+  among : Among e (s .process)
+  among = ranged-among d e (s .process) (reached-ranged d e ts within some h)
+
+  -- stuck exactly when not at Ω and without a plain step, and live exactly when with one
+  pub reached-stuck : (status e (s .process) ≡ stuck) ↔ ((s .process ≡ Ω → ⊥) × (Moves ts (strip (s .process)) → ⊥))
+  reached-stuck = stuck-exactly ts e (s .process) among
+
+  pub reached-live : (status e (s .process) ≡ live) ↔ Moves ts (strip (s .process))
+  reached-live = live-exactly ts e (s .process) among
+
+  -- what a stuck state answers: 7 exactly where an address leads to no STOP; and what it accepts is a STOP step,
+  -- which shows τ and leaves it stuck
+  module _ (dead : status e (s .process) ≡ stuck) where
+    pub reached-answers : (a : Address) → (answer ts s a ≡ refused 7) ↔ (LeadsToSTOP a (s .process) → ⊥)
+    reached-answers = stuck-answered ts e s among dead
+
+    pub reached-stays : (a : Address) (k : Event) (u : State) → answer ts s a ≡ accepted k u
+        → (k ≡ τ) × LeadsToSTOP a (s .process) × (status e (u .process) ≡ stuck)
+    reached-stays = stuck-accepted ts e s among dead
 
 -- every definition that a control calls is in the table
 abbrev pub Calls : List Term → Process → Type 0

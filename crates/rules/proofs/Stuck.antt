@@ -1,10 +1,10 @@
--- What a status says of the derivations: ended is Ω; stuck is a control other than Ω from which no address has
--- a derivation, wherever it stands; live is any other. By the offers, which are the derivations' events, and
--- which are below the table's count of events where the control's own are. Assumes nothing.
+-- What a status says of the plain rules: ended is Ω; live is a control whose stripped form has a step by them; stuck is
+-- any other. By the offers, which are below the table's count of events where the control's own are. And what it
+-- says of the derivations: those of a stuck control are STOP steps, which leave it stuck. Assumes nothing.
 use Prim.Native.Nat.{ℕ, zero, suc, _<_}
-use mathlib.Core.Path.{_≡_, refl}
+use mathlib.Core.Path.{_≡_, refl, sym, ap, _∙_}
 use mathlib.Core.Bool.{Bool, true, false, _&&_, _||_}
-use mathlib.Core.List.{List, []}
+use mathlib.Core.List.{List}
 use mathlib.Core.Logic.{⊎-elim, _↔_}
 use native.Mathlib.Omega.{arith}
 use lib.Dec.{eqb}
@@ -18,15 +18,20 @@ use Rattle.rules.specs.Process.{Address, choice, together, Process, leaf
 use Rattle.rules.specs.Process.{sequence, Ω, ⊥′}
 use Rattle.rules.specs.Track.{At, Outcome}
 use Rattle.sets.specs.EventSet.{member}
-use Rattle.rules.specs.Tracking.{Tracks}
+use Rattle.rules.specs.Tracking.{Visible, Tracks}
+use Rattle.rules.specs.Plain.{Plain, strip, Steps, Moves}
+use Rattle.rules.specs.Plain as Fig3
+use Rattle.rules.specs.Stopping.{LeadsToSTOP}
 use Rattle.rules.specs.Step.{at-Ω}
 use Rattle.rules.specs.declared.Status.the-variants.{Live as live, Ended as ended, Stuck as stuck}
-use Rattle.rules.specs.Offers.{leaf-offers, offers-✓, offers-τ, offers-event, offers, offers-some}
+use Rattle.rules.specs.Offers.{leaf-offers, offers-✓, offers-event, offers, offers-some, plain-τ, moves}
 use Rattle.rules.specs.Offers.{status}
-use Rattle.rules.specs.Run.{State, stands, refused, answer}
-use Rattle.rules.specs.Derivation.{Never, Derivable, Among}
-use Rattle.rules.proofs.Answered.{seven-exactly}
-use Rattle.rules.proofs.Offered.{or-left, or-right, or-either, is-Ω, derived-offered, offered-derived}
+use Rattle.rules.specs.Run.{State, stands, after, accepted, refused, answer}
+use Rattle.rules.specs.Derivation.{Among}
+use Rattle.rules.proofs.Answered.{accepted-exactly, seven-exactly}
+use Rattle.rules.proofs.Stripped.{Ω-stripped, tracked-plainly, stop-tracked}
+use Rattle.rules.proofs.Offered.{or-left, or-right, or-either, is-Ω}
+use Rattle.rules.proofs.Plainly.{shown-plainly, plainly-offered, silent-plainly, plainly-silent}
 
 no-leaf : (l : Leaf) (k : ℕ) → leaf-offers l (visible k) ≡ true → ⊥
 unfolding leaf-offers
@@ -75,35 +80,43 @@ which-offered (suc n) P h =
 unfolding at-Ω
 Ω-ended = refl
 
--- some event is offered
-abbrev some-event : ℕ → Process → Bool
-some-event n P = offers-τ P || (offers-✓ P || offers-some n P)
+no-plain-Ω : {ts : List Term} {e : Event} {q : Plain} → Steps ts Fig3.ended e q → ⊥
+no-plain-Ω = elim [ ]
+
+true-false : (b : Bool) → b ≡ true → b ≡ false → ⊥
+true-false b e f = let z : _≡_ {A = ℕ} 0 1 = cc in omega arith
 
 module _ (ts : List Term) (n : ℕ) (P : Process) where
-  -- an offer has a derivation, and a derivation an offer
-  offer-derived : some-event n P ≡ true → (s : At) → (a : Address) × (r : Outcome) × Tracks ts a P s r
-  unfolding offers
-  offer-derived h s =
-      ⊎-elim (λ t. from τ t) (λ m. ⊎-elim (λ t. from ✓ t) visibly (or-either (offers-✓ P) (offers-some n P) m))
-      (or-either (offers-τ P) (offers-✓ P || offers-some n P) h)
+  -- the plain rules have a step where `moves` says so, and `moves` says so where they have one
+  moves-plainly : moves n P ≡ true → Moves ts (strip P)
+  unfolding moves offers
+  moves-plainly h =
+      ⊎-elim (λ t. by τ (silent-plainly ts P t)) (λ m. ⊎-elim (visibly ✓ tt) some (or-either (offers-✓ P) (offers-some n P) m))
+      (or-either (plain-τ P) (offers-✓ P || offers-some n P) h)
     where
-      from : (e : Event) → offers P e ≡ true → (a : Address) × (r : Outcome) × Tracks ts a P s r
-      from e o = let d = offered-derived ts P e o s in (d .0, d .1, d .2)
+      by : (e : Event) → (q : Plain) × Steps ts (strip P) e q → Moves ts (strip P)
+      by e d = (e, d .0, d .1)
 
-      visibly : offers-some n P ≡ true → (a : Address) × (r : Outcome) × Tracks ts a P s r
-      visibly o = let k = which-offered n P o in from (visible (k .0)) (k .1)
+      visibly : (e : Event) → Visible e → offers P e ≡ true → Moves ts (strip P)
+      visibly e v o = by e (shown-plainly ts P e v o)
 
-  offered-some : Among n P → (e : Event) → offers P e ≡ true → some-event n P ≡ true
-  unfolding offers
-  offered-some t τ h = or-left (offers-τ P) (offers-✓ P || offers-some n P) h
-  offered-some t ✓ h = or-right (offers-τ P) (offers-✓ P || offers-some n P) (or-left (offers-✓ P) (offers-some n P) h)
-  offered-some t (visible k) h =
-      or-right (offers-τ P) (offers-✓ P || offers-some n P)
-      (or-right (offers-✓ P) (offers-some n P) (some-offered n k P (among-offers n k P t h) h))
+      some : offers-some n P ≡ true → Moves ts (strip P)
+      some o = let k = which-offered n P o in visibly (visible (k .0)) tt (k .1)
+
+  plainly-moves : Among n P → Moves ts (strip P) → moves n P ≡ true
+  unfolding moves offers
+  plainly-moves t (τ, q, h) = or-left (plain-τ P) (offers-✓ P || offers-some n P) (plainly-silent ts P h)
+  plainly-moves t (✓, q, h) =
+      or-right (plain-τ P) (offers-✓ P || offers-some n P)
+      (or-left (offers-✓ P) (offers-some n P) (plainly-offered ts P h))
+  plainly-moves t (visible k, q, h) =
+      let offered = plainly-offered ts P h in
+      or-right (plain-τ P) (offers-✓ P || offers-some n P)
+      (or-right (offers-✓ P) (offers-some n P) (some-offered n k P (among-offers n k P t offered) offered))
 
   pub ended-exactly : (status n P ≡ ended) ↔ (P ≡ Ω)
   unfolding status at-Ω
-  ended-exactly = (λ h. go (at-Ω P) refl (some-event n P) h, λ e. rw e)
+  ended-exactly = (λ h. go (at-Ω P) refl (moves n P) h, λ e. rw e)
     where
       go : (b : Bool) → at-Ω P ≡ b → (c : Bool) → choose b ended (choose c live stuck) ≡ ended → P ≡ Ω
       go true e c h = is-Ω P e
@@ -117,72 +130,85 @@ module _ (ts : List Term) (n : ℕ) (P : Process) where
       go true e = absurd (h (is-Ω P e))
       go false e = refl
 
-  never-offers : Never ts P → some-event n P ≡ false
-  never-offers h = go (some-event n P) refl
+  still : (Moves ts (strip P) → ⊥) → moves n P ≡ false
+  still h = go (moves n P) refl
     where
-      go : (b : Bool) → some-event n P ≡ b → b ≡ false
-      go true e =
-          let d = offer-derived e (record { reference = 0; fresh = 1; arcs = [] }) in
-          absurd (h (d .0) _ (d .1) (d .2))
+      go : (b : Bool) → moves n P ≡ b → b ≡ false
+      go true e = absurd (h (moves-plainly e))
       go false e = refl
 
-  stuck-is : status n P ≡ stuck → (at-Ω P ≡ false) × (some-event n P ≡ false)
+  stuck-is : status n P ≡ stuck → (at-Ω P ≡ false) × (moves n P ≡ false)
   unfolding status
-  stuck-is h = go (at-Ω P) (some-event n P) refl refl h
+  stuck-is h = go (at-Ω P) (moves n P) h
     where
-      go : (b c : Bool) → at-Ω P ≡ b → some-event n P ≡ c → choose b ended (choose c live stuck) ≡ stuck → (b ≡ false) × (c ≡ false)
-      go true c e f h = let z : _≡_ {A = ℕ} 0 1 = cc in absurd (omega arith)
-      go false true e f h = let z : _≡_ {A = ℕ} 0 1 = cc in absurd (omega arith)
-      go false false e f h = (refl, refl)
-
-  live-is : status n P ≡ live → (at-Ω P ≡ false) × (some-event n P ≡ true)
-  unfolding status
-  live-is h = go (at-Ω P) (some-event n P) h
-    where
-      go : (b c : Bool) → choose b ended (choose c live stuck) ≡ live → (b ≡ false) × (c ≡ true)
+      go : (b c : Bool) → choose b ended (choose c live stuck) ≡ stuck → (b ≡ false) × (c ≡ false)
       go true c h = let z : _≡_ {A = ℕ} 0 1 = cc in absurd (omega arith)
-      go false true h = (refl, refl)
+      go false true h = let z : _≡_ {A = ℕ} 0 1 = cc in absurd (omega arith)
+      go false false h = (refl, refl)
+
+  live-is : status n P ≡ live → moves n P ≡ true
+  unfolding status
+  live-is h = go (at-Ω P) (moves n P) h
+    where
+      go : (b c : Bool) → choose b ended (choose c live stuck) ≡ live → c ≡ true
+      go true c h = let z : _≡_ {A = ℕ} 0 1 = cc in absurd (omega arith)
+      go false true h = refl
       go false false h = let z : _≡_ {A = ℕ} 0 1 = cc in absurd (omega arith)
 
-  true-false : (b : Bool) → b ≡ true → b ≡ false → ⊥
-  true-false b e f = let z : _≡_ {A = ℕ} 0 1 = cc in omega arith
+  -- not at Ω, and no plain step
+  abbrev Dead : Type 0
+  Dead = (P ≡ Ω → ⊥) × (Moves ts (strip P) → ⊥)
 
-  pub stuck-exactly : Among n P → (status n P ≡ stuck) ↔ ((P ≡ Ω → ⊥) × Never ts P)
+  dead-stuck : Dead → status n P ≡ stuck
   unfolding status
+  dead-stuck h = rw (not-ended (h .0), still (h .1))
+
+  pub stuck-exactly : Among n P → (status n P ≡ stuck) ↔ ((P ≡ Ω → ⊥) × (Moves ts (strip P) → ⊥))
   stuck-exactly t = (
     λ h.
         let b = stuck-is h in (
           λ e. true-false (at-Ω P) (rw e Ω-ended) (b .0),
-          λ a s r d. true-false (some-event n P) (offered-some t (r .event) (derived-offered ts d)) (b .1),
+          λ m. true-false (moves n P) (plainly-moves t m) (b .1),
         ),
-    λ h. rw (not-ended (h .0), never-offers (h .1)),
+    dead-stuck,
   )
 
-  pub live-exactly : Among n P → (status n P ≡ live) ↔ ((P ≡ Ω → ⊥) × Derivable ts P)
-  unfolding status
+  pub live-exactly : Among n P → (status n P ≡ live) ↔ Moves ts (strip P)
+  unfolding status strip
   live-exactly t = (
-    λ h. let b = live-is h in (λ e. true-false (at-Ω P) (rw e Ω-ended) (b .0), offer-derived (b .1)),
-    λ h.
-        let (a, r, d) = h .1 (record { reference = 0; fresh = 1; arcs = [] }) in
-        rw (not-ended (h .0), offered-some t (r .event) (derived-offered ts d)),
+    λ h. moves-plainly (live-is h),
+    λ m. rw (not-ended (λ e. no-plain-Ω (rw e at (m .2))), plainly-moves t m),
   )
 
--- the status of a state, by what its addresses are answered
-module _ (ts : List Term) (n : ℕ) (s : State) (t : Among n (s .process)) where
-  -- every address is answered 7 exactly where there is no derivation from any place
-  pub all-seven : Never ts (s .process) ↔ ((a : Address) → answer ts s a ≡ refused 7)
-  all-seven = (
-    λ h a. seven-exactly ts s a .1 (λ r d. h a (stands s) r d),
-    λ h a at r d.
-        let offer = derived-offered ts d in
-        let (b, q, e, same) = offered-derived ts (s .process) (r .event) offer (stands s) in
-        seven-exactly ts s b .0 (h b) q e,
+module _ (ts : List Term) (n : ℕ) (P : Process) (t : Among n P) (h : status n P ≡ stuck) where
+  -- a stuck control's derivations are STOP steps, which show τ, and behind them it is stuck
+  pub stuck-stays : {a : Address} {s : At} {r : Outcome} → Tracks ts a P s r
+      → (r .event ≡ τ) × LeadsToSTOP a P × (status n (r .process) ≡ stuck)
+  unfolding strip
+  stuck-stays {r} d = ⊎-elim (λ plain. absurd (dead .1 (_, _, plain))) (λ (e, same, leads). (e, leads, behind same)) (tracked-plainly d)
+    where
+      dead : Dead ts n P
+      dead = stuck-exactly ts n P t .0 h
+
+      behind : strip (r .process) ≡ strip P → status n (r .process) ≡ stuck
+      behind same =
+          dead-stuck ts n (r .process)
+          (λ e. dead .0 (Ω-stripped P (sym same ∙ ap strip e)), λ m. dead .1 (rw same at m))
+
+-- a stuck state, by what its addresses are answered
+module _ (ts : List Term) (n : ℕ) (s : State) (t : Among n (s .process)) (h : status n (s .process) ≡ stuck) where
+  -- 7 exactly where an address leads to no STOP
+  pub stuck-answered : (a : Address) → (answer ts s a ≡ refused 7) ↔ (LeadsToSTOP a (s .process) → ⊥)
+  stuck-answered a = (
+    λ e leads. let (r, d, silent, same) = stop-tracked ts leads (stands s) in seven-exactly ts s a .0 e r d,
+    λ none. seven-exactly ts s a .1 (λ r d. none (stuck-stays ts n (s .process) t h d .1)),
   )
 
-  -- stuck exactly when not at Ω and every address is answered 7
-  pub stuck-answered : (status n (s .process) ≡ stuck)
-      ↔ ((s .process ≡ Ω → ⊥) × ((a : Address) → answer ts s a ≡ refused 7))
-  stuck-answered = (
-    λ h. let (away, never) = stuck-exactly ts n (s .process) t .0 h in (away, all-seven .0 never),
-    λ h. stuck-exactly ts n (s .process) t .1 (h .0, all-seven .1 (h .1)),
-  )
+  -- what is accepted is a STOP step, which shows τ, and leaves the state stuck
+  pub stuck-accepted : (a : Address) (e : Event) (u : State) → answer ts s a ≡ accepted e u
+      → (e ≡ τ) × LeadsToSTOP a (s .process) × (status n (u .process) ≡ stuck)
+  unfolding after
+  stuck-accepted a e u is =
+      let (r, d, event-is, state-is, fits) = accepted-exactly ts s a e u .0 is in
+      let (silent, leads, behind) = stuck-stays ts n (s .process) t h d in
+      (sym event-is ∙ silent, leads, rw (← state-is) behind)

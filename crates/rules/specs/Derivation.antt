@@ -6,21 +6,13 @@ use Rattle.terms.specs.Term.{Term}
 use Rattle.places.specs.Place.{left-path}
 use Rattle.rules.specs.declared.Event.the-variants.{Tau as τ}
 use Rattle.rules.specs.Process.{Address, Process, leaf, prefix, internal, split, sequence, Ω, ⊥′, rhs}
-use Rattle.rules.specs.Track.{At, Outcome, labelled}
+use Rattle.rules.specs.Track.{Outcome, labelled}
 use Rattle.rules.specs.Tracking.{Tracks}
 use Rattle.rules.specs.Run.{State, start, stands}
 
 -- a derivation that an address names, from where a run stands
 abbrev pub Named : List Term → State → Address → Outcome → Type 0
 Named ts s a r = Tracks ts a (s .process) (stands s) r
-
--- from no place has any address a derivation
-abbrev pub Never : List Term → Process → Type 0
-Never ts P = (a : Address) (s : At) (r : Outcome) → Tracks ts a P s r → ⊥
-
--- from every place some address has one
-abbrev pub Derivable : List Term → Process → Type 0
-Derivable ts P = (s : At) → (a : Address) × (r : Outcome) × Tracks ts a P s r
 
 -- every event of a control is below n
 abbrev pub Among : ℕ → Process → Type 0

@@ -1,6 +1,7 @@
 -- Offers and status. Document 01, 'Steps and addresses': the events that a control has derivations for, by
--- following the term downward; ended at Ω, stuck when no address has a derivation and the control is not Ω,
--- else live. Events and status are the enums that src/ declares, events by the report's signs.
+-- following the term downward. Document 02, W2: ended at Ω, stuck when the plain rules give the stripped control
+-- no step and it is not Ω, else live. Events and status are the enums that src/ declares, events by the report's
+-- signs.
 use Prim.Native.Nat.{ℕ, zero, suc}
 use mathlib.Core.Bool.{Bool, true, false, _&&_, _||_}
 use lib.Dec.{eqb}
@@ -71,8 +72,23 @@ unfoldable pub offers-some : ℕ → Process → Bool
 offers-some zero P = false
 offers-some (suc n) P = offers-event n P || offers-some n P
 
+-- the plain rules have a τ of the stripped control: as offered, but that STOP has no step there, and ⊥ strips to STOP
+unfoldable pub plain-τ : Process → Bool
+plain-τ (leaf w (call n)) = true
+plain-τ (leaf w SKIP) = false
+plain-τ (leaf w STOP) = false
+plain-τ (prefix w e P) = false
+plain-τ (internal w P Q) = true
+plain-τ (split w choice m n P Q) = plain-τ P || plain-τ Q
+plain-τ (split w (together x) m n P Q) = (plain-τ P || offers-✓ P) || (plain-τ Q || offers-✓ Q)
+plain-τ (sequence w b P Q) = plain-τ P || offers-✓ P
+plain-τ Ω = false
+plain-τ ⊥′ = false
+
+-- the plain rules have a step of the stripped control, under a table of n events: ✓ and events are theirs as offered
+unfoldable pub moves : ℕ → Process → Bool
+moves n P = plain-τ P || (offers-✓ P || offers-some n P)
+
 -- the status of a control under a table of n events
 unfoldable pub status : ℕ → Process → Status
-status n P =
-    choose (at-Ω P) ended
-    (choose (offers-τ P || (offers-✓ P || offers-some n P)) live stuck)
+status n P = choose (at-Ω P) ended (choose (moves n P) live stuck)

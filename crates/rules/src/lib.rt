@@ -17,7 +17,7 @@ pub enum Event {
     Visible(u8),
 }
 
-// How a run stands: ended at Ω, stuck where nothing is offered, and else live.
+// How a run stands: ended at Ω, stuck where the plain rules have no step, and else live.
 pub enum Status {
     Live,
     Ended,

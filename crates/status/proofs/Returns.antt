@@ -40,19 +40,19 @@ module _ (p x w : List ℕ) (n : ℕ) where
   status-ended h = rw h
 
   module _ (r : Offered) (told : seen r ≡ offered p x w n) (going : ended w n ≡ false) where
-    pub status-tau : r .tau ≡ true → Live ≡ status p x w n
+    pub status-plain : r .plain ≡ true → Live ≡ status p x w n
     unfolding status standing
-    status-tau t = rw (← told, going, t)
+    status-plain t = rw (← told, going, t)
 
-    module _ (no-tau : r .tau ≡ false) where
+    module _ (no-plain : r .plain ≡ false) where
       pub status-tick : r .tick ≡ true → Live ≡ status p x w n
       unfolding status standing
-      status-tick t = rw (← told, going, no-tau, t)
+      status-tick t = rw (← told, going, no-plain, t)
 
       pub status-stuck : r .tick ≡ false → ((k : ℕ) → member k (r .events) ≡ false) → Stuck ≡ status p x w n
       unfolding status standing
       status-stuck t none =
-          rw (← told, going, no-tau, t, none-found event-room (λ k. member k (r .events)) none)
+          rw (← told, going, no-plain, t, none-found event-room (λ k. member k (r .events)) none)
 
       -- an answer's set has no event past the room
       pub status-event : r .tick ≡ false → r .events < 2 ^ event-room → (k : ℕ) → member k (r .events) ≡ true
@@ -60,4 +60,4 @@ module _ (p x w : List ℕ) (n : ℕ) where
       unfolding status standing
       status-event t fits k there =
           let below = set-within (r .events) event-room .0 fits k there in
-          rw (← told, going, no-tau, t, some-found event-room k (λ k. member k (r .events)) below there)
+          rw (← told, going, no-plain, t, some-found event-room k (λ k. member k (r .events)) below there)

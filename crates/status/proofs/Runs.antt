@@ -1,4 +1,4 @@
--- What is told of a run's status is what document 01 says of its control, by its offers. Past the count of a table's
+-- What is told of a run's status is what document 02's W2 says of its control, by its offers. Past the count of a table's
 -- events nothing is offered, so a search through all that there may be finds the same. Assumes nothing.
 use Prim.Native.Nat.{ℕ, zero, suc, _≤_, _<_}
 use mathlib.Core.Path.{_≡_, refl, ap, _∙_}
@@ -11,7 +11,7 @@ use Rattle.frames.specs.TableFrame.{event-room}
 use Rattle.rules.specs.declared.Status.{Status}
 use Rattle.rules.specs.Process.{Process}
 use Rattle.rules.specs.Step.{at-Ω}
-use Rattle.rules.specs.Offers.{offers-event, offers-some}
+use Rattle.rules.specs.Offers.{offers-event, offers-some, moves}
 use Rattle.rules.specs.Offers as Report
 use Rattle.plans.specs.words.Plan.{Layout}
 use Rattle.offers.specs.words.Told.{offer-of, Low, Controls}
@@ -45,7 +45,7 @@ covered e (suc n) test below h = go (eqb e (suc n)) refl (covered e n test below
 -- the status of a control by its offers
 standing-told : (e : ℕ) (P : Process) → Covers e P
     → standing (at-Ω P) (offer-of P) ≡ Report.status e P
-unfolding standing Report.status
+unfolding standing Report.status moves
 standing-told e P h =
     let some = covered e event-room (λ k. offers-event k P) (h .all-below) (h .in-room) ∙ some-told e P in
     rw some

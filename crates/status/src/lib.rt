@@ -1,5 +1,5 @@
-// The status of a run: whether it has ended, goes on or is stuck, by what it offers. Nothing is written. It relies on what
-// a run offers, and on sets of events.
+// The status of a run: whether it has ended, goes on or is stuck, by what it offers, STOP's own step apart. Nothing is
+// written. It relies on what a run offers, and on sets of events.
 use columns::Payloads;
 use control::Nodes;
 use offers::ended;
@@ -28,7 +28,7 @@ pub fn status_at(reference: usize, plan: &Plan, sets: &Payloads, nodes: &Nodes) 
         return Status::Ended;
     }
     let offered = offers(reference, plan, sets, nodes);
-    if offered.tau {
+    if offered.plain {
         return Status::Live;
     }
     if offered.tick {

@@ -9,7 +9,7 @@ shared-requires c κs = search needs
 
 returns : tie.Need-returns
 returns c =
-    let s = c .before .before .before in
+    let s = c .before .before .before .before .before in
     let a = s .before .args in
     combined-parallel _ (a .set) (a .both) (a .l) (a .r) _ (s .if1 .taken) (c .shared .ensures)
 
@@ -18,9 +18,9 @@ either-requires c κs = search needs
 
 returns-2 : tie.Need-returns-2
 returns-2 c =
-    let s = c .before .before .before .before in
-    let a = s .before .before .args in
-    combined-choice _ (a .set) (a .both) (a .l) (a .r) _ (s .before .if1 .left) (c .either .ensures)
+    let s = c .before .before .before .before .before .before .before in
+    let a = s .before .args in
+    combined-choice _ (a .set) (a .both) (a .l) (a .r) _ (s .if1 .left) (c .either .ensures)
 
 pub combined-spec : {M : Type 1} → statement M
 combined-spec = tie.close (tie.spec shared-requires returns either-requires returns-2)

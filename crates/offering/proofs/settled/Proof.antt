@@ -4,7 +4,7 @@ use Rattle.offering.proofs.settled.Statement.{statement}
 use Rattle.offering.proofs.settled.Tie as tie
 
 returns : tie.Need-returns
-returns c = settled-nested (c .before .before .args .o) _ (c .before .if1 .taken)
+returns c = settled-nested (c .before .before .before .args .o) _ (c .before .before .if1 .taken)
 
 returns-2 : tie.Need-returns-2
 returns-2 c = settled-bare (c .before .args .o) _ (c .if1 .left)

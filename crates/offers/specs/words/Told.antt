@@ -1,5 +1,5 @@
--- What the answers are of a control that the words of a run hold: its offers, by document 01's account in `Offers`
--- of rules.
+-- What the answers are of a control that the words of a run hold: its offers, and the plain rules' τ, by the account of
+-- document 01 and of document 02's W2 in `Offers` of rules.
 use Prim.Native.Nat.{ℕ, _≤_}
 use mathlib.Core.Path.{_≡_}
 use mathlib.Core.List.{List, []}
@@ -8,7 +8,7 @@ use Rattle.sets.specs.EventSet.{member}
 use Rattle.frames.specs.TableFrame.{path-room}
 use Rattle.rules.specs.Process.{Process, main, cells}
 use Rattle.rules.specs.Run.{cell-room}
-use Rattle.rules.specs.Offers.{offers-τ, offers-✓, offers-event}
+use Rattle.rules.specs.Offers.{offers-τ, offers-✓, offers-event, plain-τ}
 use Rattle.plans.specs.words.Plan.{Layout}
 use Rattle.control.specs.words.Control.{HoldsControl}
 use Rattle.offering.specs.declared.Offered.{Offered}
@@ -16,7 +16,7 @@ use Rattle.offering.specs.code.Offering.{Offer}
 
 -- what a control offers
 abbrev pub offer-of : Process → Offer
-offer-of P = record { tau = offers-τ P; tick = offers-✓ P; event = λ k. offers-event k P }
+offer-of P = record { tau = offers-τ P; plain = plain-τ P; tick = offers-✓ P; event = λ k. offers-event k P }
 
 -- document 01, 'Room': 64 digits in the path of any literal
 abbrev pub Low : Layout → Type 0
@@ -31,5 +31,6 @@ pub data Controls (l : Layout) (p x w : List ℕ) (n : ℕ) (P : Process) : Type
 -- an answer that tells what a control offers
 pub record TellsOffers (r : Offered) (P : Process) : Type 0 where
   pub tau-is : r .tau ≡ offers-τ P
+  pub plain-is : r .plain ≡ plain-τ P
   pub tick-is : r .tick ≡ offers-✓ P
   pub events-are : (k : ℕ) → member k (r .events) ≡ offers-event k P

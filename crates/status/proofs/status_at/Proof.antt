@@ -2,7 +2,7 @@
 -- nothing.
 use mathlib.Core.Path.{sym, _∙_}
 use borrow.Author.Needs.{needs}
-use Rattle.status.proofs.Returns.{status-ended, status-tau, status-tick, status-stuck, status-event}
+use Rattle.status.proofs.Returns.{status-ended, status-plain, status-tick, status-stuck, status-event}
 use Rattle.status.proofs.Runs.{promised}
 use Rattle.status.proofs.status_at.Statement.{statement}
 use Rattle.status.proofs.status_at.Tie as tie
@@ -20,7 +20,7 @@ returns-2 : tie.Need-returns-2
 returns-2 c =
     let o = c .before in
     let going = sym (o .before .before .ended .ensures) ∙ o .before .if1 .left in
-    promised _ _ _ _ _ (status-tau _ _ _ _ (o .offers .result) (o .offers .ensures .0) going (c .if2 .taken))
+    promised _ _ _ _ _ (status-plain _ _ _ _ (o .offers .result) (o .offers .ensures .0) going (c .if2 .taken))
 
 returns-3 : tie.Need-returns-3
 returns-3 c =
@@ -49,7 +49,7 @@ returns-5 c =
     let found = c .before .empty .ensures .some-event (c .if4 .left) in
     promised _ _ _ _ _
     (status-event _ _ _ _ (o .offers .result) (o .offers .ensures .0) going (t .before .if2 .left) (t .if3 .left)
-    (search needs) (found .0) (found .1))
+    (search (needs, o .offers .ok)) (found .0) (found .1))
 
 pub status-at-spec : {M : Type 1} → statement M
 status-at-spec =

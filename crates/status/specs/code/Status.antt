@@ -1,5 +1,5 @@
--- The status of a run, by whether it is at Ω and what following its control downward tells of its offers, whatever
--- the words hold.
+-- The status of a run, by whether it is at Ω and what following its control downward tells of its offers, STOP's own step
+-- apart, whatever the words hold.
 use Prim.Native.Nat.{ℕ, zero, suc}
 use mathlib.Core.Bool.{Bool, false, _||_}
 use mathlib.Core.List.{List}
@@ -17,7 +17,7 @@ some-of (suc n) test = test n || some-of n test
 
 -- the status of what is at Ω or not, and offers
 unfoldable pub standing : Bool → Offer → Status
-standing b o = choose b Ended (choose (o .tau || (o .tick || some-of event-room (o .event))) Live Stuck)
+standing b o = choose b Ended (choose (o .plain || (o .tick || some-of event-room (o .event))) Live Stuck)
 
 unfoldable pub status : List ℕ → List ℕ → List ℕ → ℕ → Status
 status p x w n = standing (ended w n) (offered p x w n)
