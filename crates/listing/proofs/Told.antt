@@ -12,17 +12,13 @@ use Rattle.scripts.specs.Script.{most}
 use Rattle.tables.specs.Table.{Sofar, judged}
 use Rattle.tables.specs.words.Columns.{kinds, payloads, owners, afters, roots}
 use Rattle.terms.specs.Term.{Term, definitions-of}
-use Rattle.terms.proofs.Trees.{each-at, checked-trees}
-use Rattle.rules.specs.Run.{State, start, Reached}
+use Rattle.rules.specs.Run.{State, start}
 use Rattle.rules.specs.Offers as Report
-use Rattle.rules.proofs.Stuck.{among-offers}
-use Rattle.rules.proofs.Ranged.{reached-ranged, ranged-among}
 use Rattle.plans.specs.code.Laid.{laid-out}
 use Rattle.plans.specs.words.Layout.{layout}
 use Rattle.plans.proofs.LaidRooms.{layout-low}
 use Rattle.status.specs.code.Status.{status}
-use Rattle.status.specs.words.Covering.{Covers}
-use Rattle.status.proofs.Runs.{run-status}
+use Rattle.status.proofs.Runs.{run-covers, run-status}
 use Rattle.counting.specs.code.Counting.{reference}
 use Rattle.runs.specs.words.Held.{Holds}
 use Rattle.runs.proofs.Starting.{start-holds}
@@ -50,25 +46,13 @@ module _ (table : List ℕ) (t : Sofar) (q : judged table ≡ accepted t) where
   abbrev ts : List Term
   ts = definitions-of t
 
-  -- its events cover what a run of it offers
-  run-covers : {s : State} → Reached ts s → Covers (t .events) (s .process)
-  run-covers {s} reached =
-      let trees = checked-trees table t q in
-      let ranged = reached-ranged (t .definitions) (t .events) ts
-      (λ k u e. each-at (t .definitions) (t .events) ts (trees .each) k u e .1) (trees .some-definitions) reached in
-      record {
-        in-room = trees .few-events;
-        all-below = λ k. among-offers (t .events) k (s .process)
-            (ranged-among (t .definitions) (t .events) (s .process) ranged);
-      }
-
   module _ {p x w g c : List ℕ} {s : State} (held : Holds (layout t) p x ts w g c s) where
     -- the status of a run's words is its control's
     status-told : status-frame (status p x w (reference c)) ≡ status-frame (Report.status (t .events) (s .process))
     status-told =
         rw (held .tells .reference-is)
         (ap status-frame (run-status p x w (layout t) (layout-low t) (s .reference) (t .events) (s .process)
-        (held .tells .controls) (run-covers (held .reached))))
+        (held .tells .controls) (run-covers table t q (held .reached))))
 
     -- and their text is its track's
     track-told : text-of (kinds t) (owners t) (afters t) (roots t) w g c ≡ saved (graph-of s)

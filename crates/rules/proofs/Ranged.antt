@@ -1,8 +1,8 @@
 -- Control stays in range of its table: where every definition calls one of d definitions and has events below
 -- e, so does every control of a run, since a step leaves parts of what it stepped from or a definition's
 -- right-hand side, and control starts as a call of definition 00. So its events are among the table's, a status
--- says of every run what it says of a control with such events, and the table has every definition that control
--- calls. Assumes nothing.
+-- says of every run of a checked table what it says of a control with such events, and the table has every
+-- definition that control calls. Assumes nothing.
 use Prim.Native.Nat.{ℕ, zero, suc, _<_}
 use mathlib.Core.Path.{_≡_, refl, subst}
 use mathlib.Core.List.{List, [], _∷_}
@@ -10,8 +10,12 @@ use mathlib.Core.Option.{Option, none, some}
 use mathlib.Core.Logic.{_↔_}
 use native.Mathlib.Omega.{arith}
 use lib.ListN.{length, getElem?}
+use Rattle.lines.specs.Judging as Judging
+use Rattle.tables.specs.Table.{Sofar, judged}
 use Rattle.terms.specs.Term.{call, SKIP, STOP, Operator, external, parallel, Term, LeafWithin, Within}
+use Rattle.terms.specs.Term.{definitions-of}
 use Rattle.terms.specs.Term as Term
+use Rattle.terms.proofs.Trees.{each-at, checked-trees}
 use Rattle.places.specs.Place.{Place}
 use Rattle.rules.specs.Process.{Address, Process, leaf, prefix, internal, split, sequence, Ω, ⊥′, below}
 use Rattle.rules.specs.Process.{joined, untouched, right-side}
@@ -27,6 +31,7 @@ use Rattle.rules.specs.Plain.{strip, Moves}
 use Rattle.rules.specs.Stopping.{LeadsToSTOP}
 use Rattle.rules.specs.declared.Event.{Event}
 use Rattle.rules.specs.declared.Event.the-variants.{Tau as τ}
+use Rattle.rules.specs.declared.Status.{Status}
 use Rattle.rules.specs.declared.Status.the-variants.{Live as live, Stuck as stuck}
 use Rattle.rules.specs.Offers.{status}
 use Rattle.rules.proofs.Answered.{accepted-exactly}
@@ -107,28 +112,38 @@ ranged-among d e (sequence w b P Q) h = (ranged-among d e P (h .0), ranged-among
 ranged-among d e Ω h = tt
 ranged-among d e ⊥′ h = tt
 
--- what a status says of a state that accepted steps of a table reach, whose definitions are within
-module _ (d e : ℕ) (ts : List Term) (within : (n : ℕ) (t : Term) → getElem? ts n ≡ some t → Within d e t) (some : 0 < d)
-    (s : State) (h : Reached ts s) where
-  among : Among e (s .process)
-  among = ranged-among d e (s .process) (reached-ranged d e ts within some h)
+-- what a status says of a state that accepted steps of a checked table reach
+module _ (text : List ℕ) (t : Sofar) (q : judged text ≡ Judging.accepted t) {s : State} (h : Reached (definitions-of t) s) where
+  abbrev ts : List Term
+  ts = definitions-of t
+
+  abbrev status-of : State → Status
+  status-of u = status (t .events) (u .process)
+
+  -- its events are the table's
+  pub checked-among : Among (t .events) (s .process)
+  checked-among =
+      let trees = checked-trees text t q in
+      ranged-among (t .definitions) (t .events) (s .process)
+      (reached-ranged (t .definitions) (t .events) ts
+      (λ k u e. each-at (t .definitions) (t .events) ts (trees .each) k u e .1) (trees .some-definitions) h)
 
   -- stuck exactly when not at Ω and without a plain step, and live exactly when with one
-  pub reached-stuck : (status e (s .process) ≡ stuck) ↔ ((s .process ≡ Ω → ⊥) × (Moves ts (strip (s .process)) → ⊥))
-  reached-stuck = stuck-exactly ts e (s .process) among
+  pub reached-stuck : (status-of s ≡ stuck) ↔ ((s .process ≡ Ω → ⊥) × (Moves ts (strip (s .process)) → ⊥))
+  reached-stuck = stuck-exactly ts (t .events) (s .process) checked-among
 
-  pub reached-live : (status e (s .process) ≡ live) ↔ Moves ts (strip (s .process))
-  reached-live = live-exactly ts e (s .process) among
+  pub reached-live : (status-of s ≡ live) ↔ Moves ts (strip (s .process))
+  reached-live = live-exactly ts (t .events) (s .process) checked-among
 
   -- what a stuck state answers: 7 exactly where an address leads to no STOP; and what it accepts is a STOP step,
   -- which shows τ and leaves it stuck
-  module _ (dead : status e (s .process) ≡ stuck) where
+  module _ (dead : status-of s ≡ stuck) where
     pub reached-answers : (a : Address) → (answer ts s a ≡ refused 7) ↔ (LeadsToSTOP a (s .process) → ⊥)
-    reached-answers = stuck-answered ts e s among dead
+    reached-answers = stuck-answered ts (t .events) s checked-among dead
 
     pub reached-stays : (a : Address) (k : Event) (u : State) → answer ts s a ≡ accepted k u
-        → (k ≡ τ) × LeadsToSTOP a (s .process) × (status e (u .process) ≡ stuck)
-    reached-stays = stuck-accepted ts e s among dead
+        → (k ≡ τ) × LeadsToSTOP a (s .process) × (status-of u ≡ stuck)
+    reached-stays = stuck-accepted ts (t .events) s checked-among dead
 
 -- every definition that a control calls is in the table
 abbrev pub Calls : List Term → Process → Type 0

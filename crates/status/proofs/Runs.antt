@@ -7,17 +7,24 @@ use mathlib.Core.List.{List}
 use native.Mathlib.Omega.{arith}
 use lib.Dec.{eqb}
 use borrow.Author.Tests.{eqb-true, eqb-false}
+use Rattle.lines.specs.Judging.{accepted}
 use Rattle.frames.specs.TableFrame.{event-room}
+use Rattle.tables.specs.Table.{Sofar, judged}
+use Rattle.terms.specs.Term.{definitions-of}
+use Rattle.terms.proofs.Trees.{checked-trees}
 use Rattle.rules.specs.declared.Status.{Status}
 use Rattle.rules.specs.Process.{Process}
 use Rattle.rules.specs.Step.{at-Ω}
 use Rattle.rules.specs.Offers.{offers-event, offers-some, moves}
 use Rattle.rules.specs.Offers as Report
+use Rattle.rules.specs.Run.{State, Reached}
+use Rattle.rules.proofs.Stuck.{among-offers}
+use Rattle.rules.proofs.Ranged.{checked-among}
 use Rattle.plans.specs.words.Plan.{Layout}
 use Rattle.offers.specs.words.Told.{offer-of, Low, Controls}
 use Rattle.offers.proofs.Runs.{run-offers, run-ended}
 use Rattle.status.specs.code.Status.{some-of, standing, status}
-use Rattle.status.specs.words.Covering.{Covers}
+use Rattle.status.specs.words.Told.{Covers, TellsStatus}
 
 -- one of the first n events
 some-told : (n : ℕ) (P : Process) → some-of n (λ k. offers-event k P) ≡ offers-some n P
@@ -50,6 +57,14 @@ standing-told e P h =
     let some = covered e event-room (λ k. offers-event k P) (h .all-below) (h .in-room) ∙ some-told e P in
     rw some
 
+-- the events of a checked table cover what a run of it offers
+pub run-covers : (text : List ℕ) (t : Sofar) → judged text ≡ accepted t → {s : State} → Reached (definitions-of t) s
+    → Covers (t .events) (s .process)
+run-covers text t q {s} reached = record {
+  in-room = checked-trees text t q .few-events;
+  all-below = λ k. among-offers (t .events) k (s .process) (checked-among text t q reached);
+}
+
 module _ (p x w : List ℕ) where
   pub run-status : (l : Layout) → Low l → (n e : ℕ) (P : Process) → Controls l p x w n P → Covers e P
       → status p x w n ≡ Report.status e P
@@ -58,7 +73,5 @@ module _ (p x w : List ℕ) where
       rw (run-ended l p x w low n P c, run-offers l p x w low n P c) (standing-told e P h)
 
   -- the promises of a status
-  pub promised : (n : ℕ) (r : Status) → r ≡ status p x w n → (r ≡ status p x w n)
-      × ((l : Layout) (P : Process) (e : ℕ) → Low l → Controls l p x w n P → Covers e P
-      → r ≡ Report.status e P)
+  pub promised : (n : ℕ) (r : Status) → r ≡ status p x w n → (r ≡ status p x w n) × TellsStatus p x w n r
   promised n r h = (h, λ l P e low c v. h ∙ run-status l low n e P c v)

@@ -1,2 +1,2 @@
--- Layouts of words and invariants: `Covering`, the counts of events that cover what a control offers.
-pub mod Covering
+-- Layouts of words and invariants: `Told`, what the answer is of a control that words hold.
+pub mod Told

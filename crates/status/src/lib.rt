@@ -8,21 +8,14 @@ use plans::Plan;
 use rules::Status;
 use sets::empty;
 ghost use mathlib.Core.Path.{_≡_};
-ghost use Prim.Native.Nat.{ℕ};
-ghost use Rattle.rules.specs.Process.{Process};
-ghost use Rattle.rules.specs.Offers.{status};
-ghost use Rattle.plans.specs.words.Plan.{Layout};
-ghost use Rattle.offers.specs.words.Told.{Low, Controls};
 ghost use Rattle.status.specs.code.Status as code;
-ghost use Rattle.status.specs.words.Covering.{Covers};
+ghost use Rattle.status.specs.words.Told.{TellsStatus};
 
 // The status of a run at a reference.
 pub fn status_at(reference: usize, plan: &Plan, sets: &Payloads, nodes: &Nodes) -> Status
     ensures { λ r. ⌜ r ≡ code.status
         (now (plan .entry)) (now (sets .entry)) (now (nodes .entry)) reference ⌝ }
-    ensures { λ r. ⌜ ((l : Layout) (P : Process) (e : ℕ) → Low l
-        → Controls l (now (plan .entry)) (now (sets .entry)) (now (nodes .entry)) reference P
-        → Covers e P → r ≡ status e P) ⌝ }
+    ensures { λ r. ⌜ TellsStatus (now (plan .entry)) (now (sets .entry)) (now (nodes .entry)) reference r ⌝ }
 {
     if ended(reference, nodes) {
         return Status::Ended;
