@@ -15,9 +15,10 @@ use Rattle.rules.specs.declared.Event.the-variants.{Tau as τ}
 use Rattle.rules.specs.declared.Status.{Status}
 use Rattle.rules.specs.declared.Status.the-variants.{Live, Ended, Stuck}
 use Rattle.rules.specs.Process.{Address, Ω}
-use Rattle.rules.specs.Plain.{strip, Moves}
+use Rattle.rules.specs.Plain.{strip}
 use Rattle.rules.specs.Stopping.{LeadsToSTOP}
 use Rattle.rules.specs.Run.{State, Reached, goes-on}
+use Rattle.rules.specs.Derivation.{Moves}
 use Rattle.rules.specs.Offers.{status}
 use Rattle.rules.proofs.Stuck.{ended-exactly, stuck-stays}
 use Rattle.rules.proofs.Ranged.{checked-among, reached-stuck, reached-live, reached-stays}
@@ -27,7 +28,8 @@ use Rattle.status.proofs.Runs.{run-covers}
 use Rattle.runs.specs.words.Held.{Words, addressed}
 use Rattle.runs.specs.declared.Answer.{Answer}
 use Rattle.demands.specs.Ahead.{Ahead, next, further}
-use Rattle.demands.specs.words.Words.{Planned, HoldsRun, Steps, shows, StatusOf}
+use Rattle.demands.specs.words.Words.{Planned, HoldsRun, Steps, shows}
+use Rattle.demands.specs.words.Statuses.{StatusOf}
 use Rattle.demands.proofs.Derivations.{accepted-through}
 
 -- what accepted steps lead to from a state that accepted steps reach, they reach

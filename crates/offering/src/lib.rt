@@ -12,7 +12,7 @@ ghost use mathlib.Core.Path.{_≡_};
 ghost use Rattle.offering.specs.code.Offering as code;
 ghost use Rattle.offering.specs.code.Offering.{seen};
 
-// Whether τ and ✓ are offered, and which events; and whether the plain rules have a τ, which STOP is none of.
+// Whether τ and ✓ are offered, and which events; and whether τ is by the plain rules, as STOP's own is not.
 pub struct Offered {
     pub tau: bool,
     pub plain: bool,

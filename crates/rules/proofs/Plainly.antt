@@ -1,7 +1,8 @@
 -- What the plain rules have of the stripped control, by its offers: ✓ and events exactly as offered, since what shows
--- them is no STOP step; and τ exactly as `plain-τ` says, by induction on the control. Assumes nothing.
+-- them is no STOP step; and τ exactly as `plain-τ` says, by induction on the control. And where there is a STOP step.
+-- Assumes nothing.
 use Prim.Native.Nat.{ℕ}
-use mathlib.Core.Path.{_≡_, refl, ap, subst}
+use mathlib.Core.Path.{_≡_, refl, sym, ap, subst, _∙_}
 use mathlib.Core.Bool.{Bool, true, _||_}
 use mathlib.Core.List.{List}
 use mathlib.Core.Logic.{⊎-elim}
@@ -9,40 +10,67 @@ use native.Mathlib.Omega.{arith}
 use Rattle.terms.specs.Term.{call, SKIP, STOP, Term}
 use Rattle.rules.specs.declared.Event.{Event}
 use Rattle.rules.specs.declared.Event.the-variants.{Tau as τ, Tick as ✓}
-use Rattle.rules.specs.Process.{choice, together, Process, leaf, prefix, internal, split, sequence, Ω, ⊥′}
-use Rattle.rules.specs.Tracking.{Visible, Shows, hides-τ, hides-✓}
+use Rattle.rules.specs.Process.{Address, choice, together, Process, leaf, prefix, internal, split, sequence, Ω, ⊥′}
+use Rattle.rules.specs.Track.{At, Outcome, labelled, around, carried}
+use Rattle.rules.specs.Tracking.{Visible, Shows, hides-τ, hides-✓, Tracks}
+use Rattle.rules.specs.Tracking as Fig7
 use Rattle.rules.specs.Plain.{Plain, ended, operator, strip, Steps, process-call}
 use Rattle.rules.specs.Plain.{internal-choice-1, internal-choice-2, external-choice-1, external-choice-2}
 use Rattle.rules.specs.Plain.{external-choice-3, external-choice-4, sequential-composition-1}
 use Rattle.rules.specs.Plain.{sequential-composition-2}
 use Rattle.rules.specs.Plain.{synchronized-parallelism-1, synchronized-parallelism-2}
+use Rattle.rules.specs.Stopping.{LeadsToSTOP, there, by-first, by-second, inside}
 use Rattle.rules.specs.Offers.{offers-✓, offers, plain-τ}
 use Rattle.rules.specs.Run.{start, stands}
-use Rattle.rules.proofs.Stripped.{ends-at-Ω, seen-visible, tracked-plainly, plainly-tracked}
+use Rattle.rules.proofs.Stripped.{ends-at-Ω, tracked-plainly, plainly-tracked}
 use Rattle.rules.proofs.Offered.{or-left, or-right, or-either, τ-no-✓, derived-offered, offered-derived}
 
 -- what a parallel or a sequence shows as τ of a side
 abbrev hidden : Process → Bool
 hidden P = plain-τ P || offers-✓ P
 
-module _ (ts : List Term) where
-  -- what is offered visibly is a plain step, and every plain step is offered
-  pub shown-plainly : (P : Process) (e : Event) → Visible e → offers P e ≡ true → (q : Plain) × Steps ts (strip P) e q
-  shown-plainly P e v h =
-      let (a, r, d, is) = offered-derived ts P e h (stands start) in
-      (strip (r .process), seen-visible (tracked-plainly d) is v)
+-- a parallel hides what is τ
+hides : {x : ℕ} {e : Event} → e ≡ τ → Shows x e τ
+hides h = rw h hides-τ
 
+module _ (ts : List Term) where
+  -- the STOP step has a derivation at every address that leads to a STOP, wherever the process stands, and shows τ
+  pub stop-tracked : {a : Address} {P : Process} → LeadsToSTOP a P → (s : At)
+      → (r : Outcome) × Tracks ts a P s r × (r .event ≡ τ)
+  unfolding labelled around carried
+  stop-tracked there s = (_, Fig7.stop, refl)
+  stop-tracked (by-first {o = choice} l) s = let (r, d, e) = stop-tracked l _ in (_, Fig7.external-choice-1 d e, refl)
+  stop-tracked (by-first {o = together x} l) s =
+      let (r, d, e) = stop-tracked l _ in (_, Fig7.synchronized-parallelism-1 d (hides e), refl)
+  stop-tracked (by-second {o = choice} l) s = let (r, d, e) = stop-tracked l _ in (_, Fig7.external-choice-2 d e, refl)
+  stop-tracked (by-second {o = together x} l) s =
+      let (r, d, e) = stop-tracked l _ in (_, Fig7.synchronized-parallelism-2 d (hides e), refl)
+  stop-tracked (inside l) s =
+      let (r, d, e) = stop-tracked l s in (_, Fig7.sequential-composition-1 d (λ q. τ-no-✓ (sym e ∙ q)), e)
+
+  -- what is offered visibly has a derivation, which is a plain step
+  shown : (P : Process) (e : Event) → Visible e → offers P e ≡ true
+      → (a : Address) × (r : Outcome) × Tracks ts a P (stands start) r × (r .event ≡ e) × Steps ts (strip P) e (strip (r .process))
+  shown P e v h =
+      let (a, r, d, is) = offered-derived ts P e h (stands start) in
+      let plain = ⊎-elim (λ plain. rw is at plain) (λ stop. absurd (rw (sym is ∙ stop .0) at v)) (tracked-plainly d) in
+      (a, r, d, is, plain)
+
+  pub shown-plainly : (P : Process) (e : Event) → Visible e → offers P e ≡ true → (q : Plain) × Steps ts (strip P) e q
+  shown-plainly P e v h = let (a, r, d, is, plain) = shown P e v h in (strip (r .process), plain)
+
+  -- every plain step is offered
   pub plainly-offered : (P : Process) {e : Event} {q : Plain} → Steps ts (strip P) e q → offers P e ≡ true
   plainly-offered P h =
-      let (a, r, d, is, there) = plainly-tracked ts h P refl (stands start) in
+      let (a, r, d, is, same) = plainly-tracked ts h P refl (stands start) in
       subst (λ (e : Event). offers P e ≡ true) is (derived-offered ts d)
 
   -- an offered ✓ is a plain step to Ω
   ends-plainly : (P : Process) → offers-✓ P ≡ true → Steps ts (strip P) ✓ ended
   unfolding offers strip
   ends-plainly P h =
-      let (a, r, d, is) = offered-derived ts P ✓ h (stands start) in
-      subst (λ (q : Plain). Steps ts (strip P) ✓ q) (ap strip (ends-at-Ω d is)) (seen-visible (tracked-plainly d) is tt)
+      let (a, r, d, is, plain) = shown P ✓ tt h in
+      subst (λ (q : Plain). Steps ts (strip P) ✓ q) (ap strip (ends-at-Ω d is)) plain
 
   plainly-ends : (P : Process) {q : Plain} → Steps ts (strip P) ✓ q → offers-✓ P ≡ true
   unfolding offers

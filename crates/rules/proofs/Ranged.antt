@@ -27,7 +27,7 @@ use Rattle.rules.specs.Tracking.{sequential-composition-2, synchronized-
 use Rattle.rules.specs.Tracking.{synchronized-parallelism-2, synchronized-parallelism-3}
 use Rattle.rules.specs.Tracking.{synchronized-parallelism-4}
 use Rattle.rules.specs.Run.{State, after, accepted, refused, answer, Reached, begun, goes-on}
-use Rattle.rules.specs.Plain.{strip, Moves}
+use Rattle.rules.specs.Plain.{strip}
 use Rattle.rules.specs.Stopping.{LeadsToSTOP}
 use Rattle.rules.specs.declared.Event.{Event}
 use Rattle.rules.specs.declared.Event.the-variants.{Tau as τ}
@@ -35,7 +35,7 @@ use Rattle.rules.specs.declared.Status.{Status}
 use Rattle.rules.specs.declared.Status.the-variants.{Live as live, Stuck as stuck}
 use Rattle.rules.specs.Offers.{status}
 use Rattle.rules.proofs.Answered.{accepted-exactly}
-use Rattle.rules.specs.Derivation.{Among}
+use Rattle.rules.specs.Derivation.{Moves, Among}
 use Rattle.rules.proofs.Stuck.{stuck-exactly, live-exactly, stuck-answered, stuck-accepted}
 
 -- every call of a control is of one of d definitions, and every event is one of e

@@ -27,7 +27,6 @@ use Rattle.rules.specs.Tracking.{synchronized-parallelism-3, synchronize
 use Rattle.rules.specs.Plain.{Plain, binary, plain, plain-side, plain-rhs, operator, strip, Steps}
 use Rattle.rules.specs.Plain as Fig3
 use Rattle.rules.specs.Stopping.{LeadsToSTOP, there, by-first, by-second, inside}
-use Rattle.rules.proofs.Offered.{τ-no-✓}
 
 -- a term before any step strips to the term
 strip-joined : (o : Operator) (w : Place) (P Q : Process)
@@ -54,7 +53,7 @@ pub strip-rhs : (ts : List Term) (n : ℕ) → strip (rhs ts n) ≡ plain-rhs ts
 strip-rhs ts n = strip-right-side n (getElem? ts n)
 
 -- only Ω strips to Ω
-pub Ω-stripped : (P : Process) → strip P ≡ Fig3.ended → P ≡ Ω
+Ω-stripped : (P : Process) → strip P ≡ Fig3.ended → P ≡ Ω
 unfolding strip
 Ω-stripped (leaf w l) e = cc
 Ω-stripped (prefix w n P) e = cc
@@ -125,7 +124,7 @@ module _ {ts : List Term} where
   ends-at-Ω (synchronized-parallelism-4 t t′) e = refl
 
   -- a visible step is no STOP step
-  pub seen-visible : {a : Address} {P : Process} {q : Plain} {u e : Event} → Seen ts a P u q → u ≡ e → Visible e
+  seen-visible : {a : Address} {P : Process} {q : Plain} {u e : Event} → Seen ts a P u q → u ≡ e → Visible e
       → Steps ts (strip P) e q
   seen-visible (inl h) t v = rw t at h
   seen-visible (inr h) t v = absurd (rw (sym t ∙ h .0) at v)
@@ -262,20 +261,6 @@ module _ {ts : List Term} where
       (_, λ s. (_, synchronized-parallelism-4 (Ω-stripped P t) (Ω-stripped Q t′), refl, refl))
   addressed (sequence w b P Q) (Fig3.sequential-composition-1 h n) = (_, reaches-on (addressed P h .1) n)
   addressed (sequence w b P Q) (Fig3.sequential-composition-2 h t) = (_, reaches-over (addressed P h .1) refl)
-
--- the STOP step has a derivation at every address that leads to a STOP, wherever the process stands
-pub stop-tracked : (ts : List Term) {a : Address} {P : Process} → LeadsToSTOP a P → (s : At)
-    → (r : Outcome) × Tracks ts a P s r × (r .event ≡ τ) × (strip (r .process) ≡ strip P)
-unfolding strip operator labelled
-stop-tracked ts = stops
-  where
-    stops : {a : Address} {P : Process} → LeadsToSTOP a P → Reaches ts a P τ (strip P)
-    stops there = λ s. (_, stop, refl, refl)
-    stops (by-first {o = choice} l) = reaches-side left (stops l) (waits refl)
-    stops (by-first {o = together x} l) = reaches-side left (stops l) (shows hides-τ)
-    stops (by-second {o = choice} l) = reaches-side right (stops l) (waits refl)
-    stops (by-second {o = together x} l) = reaches-side right (stops l) (shows hides-τ)
-    stops (inside l) = reaches-on (stops l) τ-no-✓
 
 -- every plain step has an address, from every process that strips to where it starts, wherever that stands
 pub plainly-tracked : (ts : List Term) {p q : Plain} {e : Event} → Steps ts p e q

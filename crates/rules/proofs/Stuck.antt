@@ -19,19 +19,20 @@ use Rattle.rules.specs.Process.{sequence, Ω, ⊥′}
 use Rattle.rules.specs.Track.{At, Outcome}
 use Rattle.sets.specs.EventSet.{member}
 use Rattle.rules.specs.Tracking.{Visible, Tracks}
-use Rattle.rules.specs.Plain.{Plain, strip, Steps, Moves}
+use Rattle.rules.specs.Plain.{Plain, operator, strip, Steps}
 use Rattle.rules.specs.Plain as Fig3
-use Rattle.rules.specs.Stopping.{LeadsToSTOP}
+use Rattle.rules.specs.Stopping.{LeadsToSTOP, there, by-first, by-second, inside}
 use Rattle.rules.specs.Step.{at-Ω}
 use Rattle.rules.specs.declared.Status.the-variants.{Live as live, Ended as ended, Stuck as stuck}
 use Rattle.rules.specs.Offers.{leaf-offers, offers-✓, offers-event, offers, offers-some, plain-τ, moves}
 use Rattle.rules.specs.Offers.{status}
 use Rattle.rules.specs.Run.{State, stands, after, accepted, refused, answer}
-use Rattle.rules.specs.Derivation.{Among}
+use Rattle.rules.specs.Derivation.{Moves, Among}
 use Rattle.rules.proofs.Answered.{accepted-exactly, seven-exactly}
-use Rattle.rules.proofs.Stripped.{Ω-stripped, tracked-plainly, stop-tracked}
+use Rattle.rules.proofs.Stripped.{tracked-plainly}
 use Rattle.rules.proofs.Offered.{or-left, or-right, or-either, is-Ω}
-use Rattle.rules.proofs.Plainly.{shown-plainly, plainly-offered, silent-plainly, plainly-silent}
+use Rattle.rules.proofs.Plainly.{stop-tracked, shown-plainly, plainly-offered, silent-plainly}
+use Rattle.rules.proofs.Plainly.{plainly-silent}
 
 no-leaf : (l : Leaf) (k : ℕ) → leaf-offers l (visible k) ≡ true → ⊥
 unfolding leaf-offers
@@ -82,6 +83,14 @@ unfolding at-Ω
 
 no-plain-Ω : {ts : List Term} {e : Event} {q : Plain} → Steps ts Fig3.ended e q → ⊥
 no-plain-Ω = elim [ ]
+
+-- what has a STOP to step is not at Ω
+stops-no-Ω : {a : Address} {P : Process} → LeadsToSTOP a P → strip P ≡ Fig3.ended → ⊥
+unfolding strip operator
+stops-no-Ω there e = let z : _≡_ {A = ℕ} 0 1 = cc in omega arith
+stops-no-Ω (by-first l) e = let z : _≡_ {A = ℕ} 0 1 = cc in omega arith
+stops-no-Ω (by-second l) e = let z : _≡_ {A = ℕ} 0 1 = cc in omega arith
+stops-no-Ω (inside l) e = let z : _≡_ {A = ℕ} 0 1 = cc in omega arith
 
 true-false : (b : Bool) → b ≡ true → b ≡ false → ⊥
 true-false b e f = let z : _≡_ {A = ℕ} 0 1 = cc in omega arith
@@ -185,22 +194,23 @@ module _ (ts : List Term) (n : ℕ) (P : Process) (t : Among n P) (h : status n 
   pub stuck-stays : {a : Address} {s : At} {r : Outcome} → Tracks ts a P s r
       → (r .event ≡ τ) × LeadsToSTOP a P × (status n (r .process) ≡ stuck)
   unfolding strip
-  stuck-stays {r} d = ⊎-elim (λ plain. absurd (dead .1 (_, _, plain))) (λ (e, same, leads). (e, leads, behind same)) (tracked-plainly d)
+  stuck-stays {a} {r} d =
+      ⊎-elim (λ plain. absurd (dead .1 (_, _, plain))) (λ (e, same, leads). (e, leads, behind leads same)) (tracked-plainly d)
     where
       dead : Dead ts n P
       dead = stuck-exactly ts n P t .0 h
 
-      behind : strip (r .process) ≡ strip P → status n (r .process) ≡ stuck
-      behind same =
+      behind : LeadsToSTOP a P → strip (r .process) ≡ strip P → status n (r .process) ≡ stuck
+      behind leads same =
           dead-stuck ts n (r .process)
-          (λ e. dead .0 (Ω-stripped P (sym same ∙ ap strip e)), λ m. dead .1 (rw same at m))
+          (λ e. stops-no-Ω leads (sym same ∙ ap strip e), λ m. dead .1 (rw same at m))
 
 -- a stuck state, by what its addresses are answered
 module _ (ts : List Term) (n : ℕ) (s : State) (t : Among n (s .process)) (h : status n (s .process) ≡ stuck) where
   -- 7 exactly where an address leads to no STOP
   pub stuck-answered : (a : Address) → (answer ts s a ≡ refused 7) ↔ (LeadsToSTOP a (s .process) → ⊥)
   stuck-answered a = (
-    λ e leads. let (r, d, silent, same) = stop-tracked ts leads (stands s) in seven-exactly ts s a .0 e r d,
+    λ e leads. let (r, d, silent) = stop-tracked ts leads (stands s) in seven-exactly ts s a .0 e r d,
     λ none. seven-exactly ts s a .1 (λ r d. none (stuck-stays ts n (s .process) t h d .1)),
   )
 

@@ -1,5 +1,5 @@
--- Fig. 3 of the report: the plain rules, one constructor a rule, in the report's order; stripping, which removes
--- references and places and reads ⊥ as STOP; and that a process has a step.
+-- Fig. 3 of the report: the plain rules, one constructor a rule, in the report's order; and stripping, which
+-- removes references and places and reads ⊥ as STOP.
 use Prim.Native.Nat.{ℕ}
 use mathlib.Core.Path.{_≡_}
 use mathlib.Core.Bool.{true}
@@ -73,7 +73,3 @@ pub data Steps (ts : List Term) : Plain → Event → Plain → Type 0 where
       → member a x ≡ true → Steps ts (binary (parallel x) P Q) (visible a) (binary (parallel x) P′ Q′)
   synchronized-parallelism-4 : {x : ℕ} {P Q : Plain} → P ≡ ended → Q ≡ ended
       → Steps ts (binary (parallel x) P Q) ✓ ended
-
--- the plain rules have a step of a process
-abbrev pub Moves : List Term → Plain → Type 0
-Moves ts p = (e : Event) × (q : Plain) × Steps ts p e q

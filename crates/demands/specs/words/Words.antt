@@ -1,4 +1,4 @@
--- The words of a run, and what the doors promise of them: a step by an address, a status, and a save. The graph that columns
+-- The words of a run, and what the doors promise of them: a step by an address, and a save. The graph that columns
 -- tell, and what writing promises of it.
 use Prim.Native.Nat.{ℕ}
 use mathlib.Core.Path.{_≡_}
@@ -9,12 +9,9 @@ use Rattle.tables.specs.words.Columns.{kinds, payloads, afters, roots}
 use Rattle.terms.specs.Term.{definitions-of}
 use Rattle.columns.specs.words.Columns.{columns}
 use Rattle.rules.specs.declared.Event.{Event}
-use Rattle.rules.specs.declared.Status.{Status}
 use Rattle.rules.specs.Run.{State}
 use Rattle.plans.specs.code.Laid.{laid-out}
 use Rattle.plans.specs.words.Layout.{layout}
-use Rattle.status.specs.words.Told.{TellsStatus}
-use Rattle.counting.specs.code.Counting.{reference}
 use Rattle.runs.specs.words.Held.{Words, Holds, Keeps}
 use Rattle.runs.specs.declared.Answer.{Answer}
 use Rattle.runs.specs.declared.Answer.the-variants.{Accepted}
@@ -43,10 +40,6 @@ Steps p x ds count v r v′ =
 -- an answer that shows an event
 abbrev pub shows : Event → Answer
 shows e = Accepted (record { event = e })
-
--- a status that may be told of words, at the reference that they tell
-abbrev pub StatusOf : List ℕ → List ℕ → Words → Status → Type 0
-StatusOf p x v r = TellsStatus p x (v .nodes) (reference (v .counters)) r
 
 -- an outcome that a save may have
 abbrev pub SavesWords : List ℕ → List ℕ → List ℕ → List ℕ → Words → List ℕ → Saved → List ℕ → Type 0
