@@ -331,13 +331,14 @@ def far_over_the_room_for_saved_text(rng):
 # how many of a thousand inputs are of each family
 SHARES = {
     # runs
-    runs.of_all_kinds: 100,
-    runs.that_ends: 75,
+    runs.of_all_kinds: 85,
+    runs.that_ends: 60,
     runs.that_meets: 65,
     runs.of_any_table: 40,
     runs.of_a_case: 20,
     runs.in_many_sides: 25,
     runs.in_deep_sequences: 30,
+    runs.to_a_dead_end: 30,
     runs.of_many_events: 30,
     runs.by_a_long_address: 20,
     of_the_longest_table: 10,
