@@ -1,4 +1,6 @@
-"""Tests of the gate, with a made-up `rt` on the path and no other: what it shows, what comes last, and its status."""
+"""Tests of the gate, with a made-up `rt` on the path and no other: what it shows, what comes last, and its status; and of
+its unit tests, that none is left out and none fails unseen.
+"""
 
 import os
 import pathlib
@@ -8,7 +10,8 @@ import sys
 import tempfile
 import unittest
 
-from tests.checks.gate import MEMORY, memory_serves
+from tests.checks import units
+from tests.checks.gate import BYTES_FOR_A_JOB, MEMORY, jobs_for, memory_serves, memory_there
 from tools.programs import REPOSITORY
 
 RUN = """
@@ -45,6 +48,12 @@ class Gate(unittest.TestCase):
         self.put_rt(rt_ci)
         with self.start(**commands) as gate:
             return gate.stdout.read().splitlines(), gate.wait()
+
+
+def each_test(suite):
+    """Every test of a suite, and of the suites in it."""
+    for part in suite:
+        yield from each_test(part) if isinstance(part, unittest.TestSuite) else (part,)
 
 
 class Outcomes(Gate):
@@ -109,8 +118,11 @@ class Shown(Gate):
 class AtATime(Gate):
     RT_CI = f"echo $RT_JOBS; echo {PASSED}"
 
-    def test_two_for_every_processor(self):
-        self.assertEqual(self.outcome(self.RT_CI)[0][1], str(2 * os.cpu_count()))
+    def test_as_many_as_memory_has_room_for(self):
+        jobs = int(self.outcome(self.RT_CI)[0][1])
+        self.assertTrue(2 * os.cpu_count() <= jobs <= 4 * os.cpu_count(), jobs)
+        self.assertGreater(memory_there(), 0)
+        self.assertEqual([jobs_for(2, count * BYTES_FOR_A_JOB) for count in (0, 3, 4, 6, 8, 99)], [4, 4, 4, 6, 8, 8])
 
     def test_as_many_as_are_asked_for(self):
         self.assertEqual(self.outcome(self.RT_CI, RT_JOBS="1")[0][1], "1")
@@ -122,10 +134,25 @@ class TemporaryFiles(Gate):
     def test_in_a_folder_that_goes_afterwards(self):
         _, folder, there, *_ = self.outcome(self.RT_CI)[0]
         self.assertEqual((there, pathlib.Path(folder).exists()), ("there", False))
-        self.assertEqual(pathlib.Path(folder).parent == MEMORY, memory_serves())
+        serves = memory_serves(jobs_for(os.cpu_count(), memory_there()))
+        self.assertEqual(pathlib.Path(folder).parent == MEMORY, serves)
 
     def test_where_they_are_asked_for(self):
         self.assertEqual(self.outcome(self.RT_CI, TMPDIR=str(self.folder))[0][1], str(self.folder))
+
+
+class Units(unittest.TestCase):
+    def test_every_module_is_run(self):
+        found = unittest.TestLoader().discover(REPOSITORY / "tests" / "checks", top_level_dir=REPOSITORY)
+        self.assertEqual({type(test).__module__ for test in each_test(found)}, set(units.modules()))
+
+    def test_a_module_that_fails_is_named(self):
+        run = "import sys; from tests.checks import units; sys.exit(units.run(sys.argv[1:]))"
+        missing, passing = "tests.checks.test_nothing", "tests.checks.test_examples"
+        for names, last, status in (((passing,), "OK", 0), ((missing, passing), f"FAILED: {missing}", 1)):
+            command = [sys.executable, "-B", "-c", run, *names]
+            ended = subprocess.run(command, cwd=REPOSITORY, stdout=subprocess.PIPE, text=True, check=False)
+            self.assertEqual((ended.stdout.splitlines()[-1], ended.returncode), (last, status))
 
 
 class Interrupts(Gate):
