@@ -3,7 +3,7 @@
     python3 tests/checks/gate.py
 
 It holds the layout of the sources and runs the unit tests, as many modules at a time as there are processors; then
-`rt ci`, once, which proves every crate from nothing and builds target/bin, two to four crates or edits at a time for every
+`rt ci`, once, which proves every crate from nothing and builds target/bin, two crates or edits at a time for every
 processor, or as many as RT_JOBS says, and with its temporary files in memory where there is room, or where TMPDIR says; and then the kept cases and the comparisons on
 what that built. All output is shown as it comes, but for the last line of `rt ci`, 'N passed, 0 failed': that is held
 back until everything has passed, and stands last, behind the seconds that each part took. The first command that fails
@@ -28,12 +28,10 @@ from tools.commands import INTERRUPTION, stop_as_by_an_interrupt, under_way
 from tools.programs import REPOSITORY
 
 RT_CI = ("rt", "ci")
-BYTES_FOR_A_JOB, BYTES_OF_ITS_FILES = 2**31, 2**30
+# `rt` proves crates, and tries edits, in batches and waits for the slowest of each: two for every processor leave none idle
+RT_JOBS = 2 * (os.cpu_count() or 1)
 MEMORY = pathlib.Path("/dev/shm")
-MEMORY_TOLD = (  # in which file, and how many bytes its number stands for
-    (pathlib.Path("/proc/meminfo"), re.compile(r"^MemAvailable: *([0-9]+) kB$", re.MULTILINE), 2**10),
-    (pathlib.Path("/sys/fs/cgroup/memory.max"), re.compile(r"^([0-9]+)$"), 1),
-)
+BYTES_FOR_A_JOB = 2**30
 ALL_PASSED = re.compile(rb"[1-9][0-9]* passed, 0 failed\n")
 FAILURE = 1  # an exit status
 
@@ -101,40 +99,22 @@ def run_part(part):
             pass
 
 
-def memory_there():
-    """The bytes of memory that may be used, by the least of what the system tells; 0 where it tells nothing."""
-    least = []
-    for file, pattern, unit in MEMORY_TOLD:
-        with contextlib.suppress(OSError):
-            least += [unit * int(number) for number in pattern.findall(file.read_text("ascii"))]
-    return min(least, default=0)
-
-
-def jobs_for(processors, memory):
-    """How many crates or edits at a time: two for every processor, and up to four where there is memory for them.
-
-    `rt` takes them in batches and waits for the slowest of each, so that more of them leave processors less idle.
-    """
-    return max(2 * processors, min(4 * processors, memory // BYTES_FOR_A_JOB))
-
-
-def memory_serves(jobs):
-    """Whether there is a folder in memory with room for so many jobs, and for programs to be run there."""
+def memory_serves():
+    """Whether there is a folder in memory with room for every job, and for programs to be run there."""
     try:
         about = os.statvfs(MEMORY)
     except OSError:
         return False
-    roomy = about.f_bavail * about.f_frsize >= jobs * BYTES_OF_ITS_FILES
+    roomy = about.f_bavail * about.f_frsize >= RT_JOBS * BYTES_FOR_A_JOB
     return roomy and not about.f_flag & os.ST_NOEXEC and os.access(MEMORY, os.W_OK)
 
 
 @contextlib.contextmanager
 def surroundings():
     """What `rt` is run in, but for what is set already: so many jobs, and a folder for what it copies for each of them."""
-    jobs = jobs_for(os.cpu_count() or 1, memory_there())
-    with tempfile.TemporaryDirectory(dir=MEMORY if memory_serves(jobs) else None) as folder:
+    with tempfile.TemporaryDirectory(dir=MEMORY if memory_serves() else None) as folder:
         os.chmod(folder, 0o711)  # rt runs programs as nobody
-        yield {"RT_JOBS": str(jobs), "TMPDIR": folder, **os.environ}
+        yield {"RT_JOBS": str(RT_JOBS), "TMPDIR": folder, **os.environ}
 
 
 def run_rt_ci():
