@@ -1,12 +1,12 @@
 -- The path of each kind of literal, from where the way to its term ends, and the answer that
 -- stands for it. Assumes nothing.
-use Prim.Native.Nat.{ℕ, zero, suc, _+_, _-_, _≤_}
+use Prim.Native.Nat.{ℕ, zero, suc, _+_, _≤_}
 use mathlib.Core.Path.{_≡_, refl, ap, _∙_}
 use mathlib.Core.Bool.{Bool, true, false}
 use mathlib.Core.List.{List, [], _∷_, _++_}
 use mathlib.Core.Option.{Option, none, some}
 use native.Mathlib.Omega.{arith}
-use native.Mathlib.Nat.{zero-add, sub-zero}
+use native.Mathlib.Nat.{zero-add}
 use lib.ListN.{length, set, length-append}
 use lib.Seq.{sets}
 use lib.Dec.{eqb}
@@ -56,25 +56,25 @@ module _ (c : Columns) (n : ℕ) (p : List ℕ) where
   -- the way from the root of the definition that the term stands in
   pub own-path : (most root : ℕ) (r : Reached) (q : List ℕ)
       → root ≡ look 64 (c .roots) (look 1024 (c .owners) n)
-      → Leaves 0 p (descended (most - 0) (c .kinds) (c .after) root n) r q → Leaves 0 p (path-of most c n) r q
+      → Leaves p (descended most (c .kinds) (c .after) root n) r q → Leaves p (path-of most c n) r q
   unfolding path-of
-  own-path most root r q e h = rw (e, sub-zero most) at h
+  own-path most root r q e h = rw e at h
 
-  pub event-none : (look 1024 (c .kinds) n ≡ prefix → ⊥) → Leaves 0 p (event-of c n) Astray p
+  pub event-none : (look 1024 (c .kinds) n ≡ prefix → ⊥) → Leaves p (event-of c n) Astray p
   unfolding event-of reached digits
   event-none h = simp (ne-eqb (look 1024 (c .kinds) n) prefix h) (refl, refl)
 
   module _ (is : look 1024 (c .kinds) n ≡ prefix) (r : Reached) (q : List ℕ)
-      (h : Leaves 0 p (path-of 63 c n) r q) where
+      (h : Leaves p (path-of 63 c n) r q) where
     event-is : event-of c n ≡ with-event (path-of 63 c n)
     unfolding event-of
     event-is = simp (eq-eqb (look 1024 (c .kinds) n) prefix is)
 
-    pub event-astray : r ≡ Astray → Leaves 0 p (event-of c n) r q
+    pub event-astray : r ≡ Astray → Leaves p (event-of c n) r q
     unfolding reached digits with-event
     event-astray e = rw event-is (go (path-of 63 c n) h)
       where
-        go : (o : Option (List ℕ)) → Leaves 0 p o r q → Leaves 0 p (with-event o) r q
+        go : (o : Option (List ℕ)) → Leaves p o r q → Leaves p (with-event o) r q
         go none h = h
         go (some w) h = let z : _≡_ {A = ℕ} 0 1 = cc in absurd (omega arith)
 
@@ -93,7 +93,7 @@ module _ (c : Columns) (n : ℕ) (p : List ℕ) where
         let w = ends-at e k in
         omega (arith, descended-short 63 _ _ _ n (w .0) (w .1))
 
-    pub event-ends : (e : ℕ) → r ≡ Ends e → Leaves 0 p (event-of c n) (Ends (e + 1)) (set q e 1)
+    pub event-ends : (e : ℕ) → r ≡ Ends e → Leaves p (event-of c n) (Ends (e + 1)) (set q e 1)
     unfolding reached digits with-event
     event-ends e k =
         let w = ends-at e k in
@@ -122,10 +122,10 @@ module _ (c : Columns) (l : Literal) (p : List ℕ) where
     told-of : (o : Option (List ℕ)) → r ≡ reached 0 o → x ≡ told (look 1024 (c .owners) n) o
     told-of o e = told-as ∙ told-is d o r e ∙ ap (λ (k : ℕ). told k o) owner
 
-    pub own-placed : l ≡ Own n → Leaves 0 p (path-of 64 c n) r q → Places c l p x q
+    pub own-placed : l ≡ Own n → Leaves p (path-of 64 c n) r q → Places c l p x q
     unfolding answer literal-path literal-definition
     own-placed e h = rw e (told-of (path-of 64 c n) (h .0), h .1)
 
-    pub event-placed : l ≡ Event n → Leaves 0 p (event-of c n) r q → Places c l p x q
+    pub event-placed : l ≡ Event n → Leaves p (event-of c n) r q → Places c l p x q
     unfolding answer literal-path literal-definition
     event-placed e h = rw e (told-of (event-of c n) (h .0), h .1)

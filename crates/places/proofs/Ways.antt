@@ -1,18 +1,18 @@
 -- Following terms downward, a step at a time: what a column has at a number, which subterm comes next, and
 -- what each end of the way says of the path and of the digits written. Assumes nothing.
-use Prim.Native.Nat.{ℕ, zero, suc, _+_, _≤_, _<_}
+use Prim.Native.Nat.{ℕ, zero, suc, _+_, _-_, _≤_, _<_}
 use mathlib.Core.Path.{_≡_, refl, sym, ap, _∙_}
 use mathlib.Core.Bool.{Bool, true, false}
-use mathlib.Core.List.{List, [], _∷_}
+use mathlib.Core.List.{List, [], _∷_, _++_, append-nil, append-assoc}
 use mathlib.Core.Option.{Option, none, some}
 use native.Mathlib.Omega.{arith}
-use native.Mathlib.Nat.{add-zero}
-use native.Mathlib.Numerals.{add-one}
-use lib.ListN.{length, set}
-use lib.Seq.{sets, set-comm}
+use native.Mathlib.Nat.{sub-zero}
+use lib.ListN.{length, set, length-append}
+use lib.Seq.{sets}
 use lib.Dec.{ltb}
 use borrow.Author.Tests.{ltb-true, lt-ltb, le-ltb, le-leb, lt-leb, eq-eqb, ne-eqb}
 use Rattle.kinds.specs.Kind.{subterms}
+use Rattle.tables.proofs.Kept.{sets-snoc}
 use Rattle.columns.specs.words.Columns.{look}
 use Rattle.places.specs.code.Descent.{next, digit, below, descended, reached, digits}
 use Rattle.places.specs.declared.Reached.{Reached}
@@ -41,13 +41,6 @@ module _ (n : ℕ) (xs : List ℕ) (i j : ℕ) where
     pub step-first : j < s → (i + 1 ≡ next n xs i j) × (1 ≡ digit n xs i j)
     unfolding next digit
     step-first h = rw (← is) (simp (eq-eqb n 2 two, lt-leb s j h, lt-ltb j s h) (refl, refl))
-
--- a store below a run of stores
-set-under : (l : List ℕ) (i j x : ℕ) (ws : List ℕ) → i < j → set (sets l j ws) i x ≡ sets (set l i x) j ws
-set-under l i j x [] h = refl
-set-under l i j x (w ∷ ws) h =
-    set-under (set l j w) i (suc j) x ws (omega arith)
-    ∙ ap (λ (m : List ℕ). sets m (suc j) ws) (set-comm l j i w x (λ e. omega arith))
 
 -- the way is at its end, or ends nowhere, or takes one step more
 module _ (f : ℕ) (ks xs : List ℕ) (i j : ℕ) where
@@ -80,49 +73,72 @@ module _ (f : ℕ) (ks xs : List ℕ) (i j : ℕ) where
           (simp (ne-eqb i j away, ne-eqb (subterms (look 1024 ks i)) 0 (λ z. some-of (count ∙ z))))
 
 -- where the way ends, and what is written
-abbrev pub Leaves : ℕ → List ℕ → Option (List ℕ) → Reached → List ℕ → Type 0
-Leaves d p o r q = (r ≡ reached d o) × (q ≡ sets p d (digits o))
+abbrev pub Leaves : List ℕ → Option (List ℕ) → Reached → List ℕ → Type 0
+Leaves p o r q = (r ≡ reached 0 o) × (q ≡ sets p 0 (digits o))
 
-module _ (d : ℕ) (p : List ℕ) (f : ℕ) (ks xs : List ℕ) (i j : ℕ) where
-  pub way-done : i ≡ j → Leaves d p (descended f ks xs i j) (Ends d) p
-  unfolding reached digits
-  way-done e = rw (descended-here f ks xs i j e) (ap Ends (sym (add-zero d)), refl)
+-- digits, and the path from there on, where there is one
+unfoldable pub onward : List ℕ → Option (List ℕ) → Option (List ℕ)
+onward g none = none
+onward g (some w) = some (g ++ w)
 
-  module _ (away : i ≡ j → ⊥) where
-    pub way-short : f ≡ 0 → Leaves d p (descended f ks xs i j) Astray p
-    unfolding reached digits
-    way-short e = rw (descended-short f ks xs i j away e) (refl, refl)
+onward-start : (o : Option (List ℕ)) → onward [] o ≡ o
+unfolding onward
+onward-start none = refl
+onward-start (some w) = refl
 
-    pub way-leaf : subterms (look 1024 ks i) ≡ 0 → Leaves d p (descended f ks xs i j) Astray p
-    unfolding reached digits
-    way-leaf e = rw (descended-leaf f ks xs i j away e) (refl, refl)
+onward-step : (g : List ℕ) (x : ℕ) (o : Option (List ℕ)) → onward g (below x o) ≡ onward (g ++ (x ∷ [])) o
+unfolding onward below
+onward-step g x none = refl
+onward-step g x (some w) = ap some (sym (append-assoc g (x ∷ []) w))
 
-    module _ (g n x m : ℕ) (more : f ≡ suc g) (count : n ≡ subterms (look 1024 ks i)) (some-of : n ≡ 0 → ⊥)
-        (x-is : x ≡ digit n xs i j) (m-is : m ≡ next n xs i j) where
-      step : descended f ks xs i j ≡ below x (descended g ks xs m j)
-      step = descended-step f ks xs i j away g n x m more count some-of x-is m-is
+-- the way from term i to term j, of at most f digits, which are to stand in front of p
+module _ (f : ℕ) (ks xs : List ℕ) (i j : ℕ) (p : List ℕ) where
+  -- halfway: nothing has been written yet in q; the digits so far stand in a copy, and the rest of the way is the one
+  -- from here on
+  pub record Halfway (q way : List ℕ) (here depth : ℕ) : Type 0 where
+    pub untouched : q ≡ p
+    pub gone : List ℕ
+    pub counted : depth ≡ length gone
+    pub copied : way ≡ sets p 0 gone
+    pub rest : descended f ks xs i j ≡ onward gone (descended (f - depth) ks xs here j)
 
-      pub way-astray : (q : List ℕ) (r : Reached) → r ≡ Astray → Leaves (d + 1) p (descended g ks xs m j) r q
-          → Leaves d p (descended f ks xs i j) r q
-      unfolding below reached digits
-      way-astray q r e h = rw step (go (descended g ks xs m j) h)
-        where
-          go : (o : Option (List ℕ)) → Leaves (d + 1) p o r q → Leaves d p (below x o) r q
-          go none h = h
-          go (some w) h = let z : _≡_ {A = ℕ} 0 1 = cc in absurd (omega arith)
+  pub way-begun : Halfway p p i 0
+  way-begun = record {
+    untouched = refl;
+    gone = [];
+    counted = refl;
+    copied = refl;
+    rest = rw (sub-zero f) (sym (onward-start (descended f ks xs i j)));
+  }
 
-      pub way-down : (q : List ℕ) (r : Reached) (e : ℕ) → r ≡ Ends e
-          → Leaves (d + 1) p (descended g ks xs m j) r q
-          → Leaves d p (descended f ks xs i j) (Ends e) (set q d x)
-      unfolding below reached digits
-      way-down q r e k h = rw step (go (descended g ks xs m j) h)
-        where
-          go : (o : Option (List ℕ)) → Leaves (d + 1) p o r q → Leaves d p (below x o) (Ends e) (set q d x)
-          go none h = let z : _≡_ {A = ℕ} 0 1 = cc in absurd (omega arith)
-          go (some w) h =
-              let at : d + 1 + length w ≡ e = cc in
-              let end : e ≡ d + suc (length w) = omega arith in (
-                ap Ends end,
-                ap (λ (l : List ℕ). set l d x) (h .1) ∙ set-under p d (d + 1) x w (omega arith)
-                    ∙ ap (λ (k : ℕ). sets (set p d x) k w) (add-one d),
-              )
+  module _ (q way : List ℕ) (here depth : ℕ) (h : Halfway q way here depth) where
+    pub way-done : here ≡ j → Leaves p (descended f ks xs i j) (Ends depth) way
+    unfolding onward reached digits
+    way-done e =
+        let all : descended f ks xs i j ≡ some (h .gone) =
+        h .rest ∙ rw (descended-here (f - depth) ks xs here j e, append-nil (h .gone)) in
+        rw all (ap Ends (omega (arith, h .counted)), h .copied)
+
+    astray : descended (f - depth) ks xs here j ≡ none → Leaves p (descended f ks xs i j) Astray q
+    unfolding onward reached digits
+    astray e = rw (h .rest, e) (refl, h .untouched)
+
+    module _ (away : here ≡ j → ⊥) where
+      pub way-short : f ≤ depth → Leaves p (descended f ks xs i j) Astray q
+      way-short l = astray (descended-short (f - depth) ks xs here j away (omega arith))
+
+      pub way-leaf : subterms (look 1024 ks here) ≡ 0 → Leaves p (descended f ks xs i j) Astray q
+      way-leaf e = astray (descended-leaf (f - depth) ks xs here j away e)
+
+      pub way-on : (n x m : ℕ) → depth < f → n ≡ subterms (look 1024 ks here) → (n ≡ 0 → ⊥)
+          → x ≡ digit n xs here j → m ≡ next n xs here j → Halfway q (set way depth x) m (depth + 1)
+      way-on n x m l count some-of x-is m-is =
+          let more : f - depth ≡ suc (f - (depth + 1)) = omega arith in
+          let step = descended-step (f - depth) ks xs here j away _ n x m more count some-of x-is m-is in
+          let end = h .counted in record {
+            untouched = h .untouched;
+            gone = h .gone ++ (x ∷ []);
+            counted = omega (arith, length-append (h .gone) (x ∷ []));
+            copied = ap (λ (l : List ℕ). set l depth x) (h .copied) ∙ sets-snoc p 0 (h .gone) x depth (omega arith);
+            rest = h .rest ∙ ap (onward (h .gone)) step ∙ onward-step (h .gone) x _;
+          }

@@ -1,4 +1,4 @@
-// Following terms downward: from a term to one of its subterms, a digit a step.
+// Following terms downward: from a term to one of its subterms, a digit a step, in one pass.
 use crate::Path;
 use crate::Reached;
 use crate::StepDown;
@@ -8,46 +8,48 @@ use columns::after_of;
 use columns::kind_of;
 use kinds::subterms;
 ghost use mathlib.Core.Path.{_≡_};
-ghost use Prim.Native.Nat.{_-_, _≤_, _<_};
+ghost use Prim.Native.Nat.{_≤_, _<_};
 ghost use lib.Seq.{sets};
 ghost use Rattle.places.specs.code.Descent as code;
 ghost use Rattle.places.specs.code.Descent.{descended, reached, digits};
 ghost use Rattle.frames.specs.TableFrame.{path-room, term-room};
 
-// Writes the digits from term `from`, which stands at a depth, down to term `to`, up to so many in all;
-// nothing is written where there is no such way.
+// Writes the digits from term `from` down to term `to`, at most so many, in front of `path`; nothing is written where
+// there is no such way.
 pub fn descend(
     from: usize,
     to: usize,
-    depth: usize,
     most: usize,
     kinds: &Kinds,
     after: &After,
     path: &mut Path,
 ) -> Reached
-    requires { ⌜ (depth ≤ most) × (most ≤ path-room) ⌝ }
-    ensures { λ r. ⌜ r ≡ reached depth
-        (descended (most - depth) (now (kinds .entry)) (now (after .entry)) from to) ⌝ }
-    ensures { λ _. ⌜ now (path .exit) ≡ sets (now (path .entry)) depth (digits
-        (descended (most - depth) (now (kinds .entry)) (now (after .entry)) from to)) ⌝ }
+    requires { ⌜ most ≤ path-room ⌝ }
+    ensures { λ r. ⌜ r ≡ reached 0
+        (descended most (now (kinds .entry)) (now (after .entry)) from to) ⌝ }
+    ensures { λ _. ⌜ now (path .exit) ≡ sets (now (path .entry)) 0 (digits
+        (descended most (now (kinds .entry)) (now (after .entry)) from to)) ⌝ }
 {
-    if from == to {
-        return Reached::Ends(depth);
+    let mut way = *path;
+    let mut here = from;
+    let mut depth = 0;
+    loop {
+        if here == to {
+            *path = way;
+            return Reached::Ends(depth);
+        }
+        if most <= depth {
+            return Reached::Astray;
+        }
+        let count = subterms(kind_of(here, kinds));
+        if count == 0 {
+            return Reached::Astray;
+        }
+        let step = step_to(here, to, count, after);
+        way[depth] = step.digit;
+        here = step.next;
+        depth += 1;
     }
-    if most <= depth {
-        return Reached::Astray;
-    }
-    let count = subterms(kind_of(from, kinds));
-    if count == 0 {
-        return Reached::Astray;
-    }
-    let step = step_to(from, to, count, after);
-    let below = descend(step.next, to, depth + 1, most, kinds, after, path);
-    let Reached::Ends(length) = below else {
-        return below;
-    };
-    path[depth] = step.digit;
-    Reached::Ends(length)
 }
 
 // The subterm of a term that `to` stands in, where the term has so many.

@@ -120,7 +120,7 @@ fn path_to(
 {
     let definition = owner_of(n, owners);
     let root = root_of(wide(definition), roots);
-    descend(root, n, 0, most, kinds, after, path)
+    descend(root, n, most, kinds, after, path)
 }
 
 // Writes the path of a prefix's event: its prefix's, and the digit 1.
