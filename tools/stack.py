@@ -133,6 +133,8 @@ def next_of(number, instructions, by_place):
         if place in by_place:
             yield by_place[place]
     if one.operation not in ("jmp", "ret", "ud2"):
+        if number + 1 == len(instructions):
+            raise Unknown(f"no end behind {one.place:x}")
         yield number + 1
 
 
@@ -149,14 +151,15 @@ def depths_of(instructions):
         if not todo:
             todo.append((min(work - depths.keys()), by_table))
         number, depth = todo.pop()
-        if depths.setdefault(number, depth) != depth:
-            raise Unknown(f"two depths at {instructions[number].place:x}")
+        if number in depths:
+            if depths[number] != depth:
+                raise Unknown(f"two depths at {instructions[number].place:x}")
+            continue
+        depths[number] = depth
         one = instructions[number]
         if is_by_table(one):
             by_table = depth
-        todo += [
-            (after, depth + lowered(one)) for after in next_of(number, instructions, by_place) if after not in depths
-        ]
+        todo += [(after, depth + lowered(one)) for after in next_of(number, instructions, by_place)]
     return depths
 
 

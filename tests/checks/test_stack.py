@@ -145,6 +145,10 @@ class Unknowns(unittest.TestCase):
 
     def test_two_depths_at_one_place(self):
         self.assertEqual(self.refused(code("f", "jne 2 <f+0x2>", "push %rbx", "ret")), "two depths at 2")
+        self.assertEqual(self.refused(code("f", "push %rbx", "jne 0 <f>", "pop %rbx", "ret")), "two depths at 0")
+
+    def test_code_that_runs_on_into_what_follows(self):
+        self.assertEqual(self.refused(code("f", "push %rbx")), "no end behind 0")
 
     def test_functions_that_call_each_other(self):
         both = code("f", to("call", "g"), "ret") + code("g", to("call", "f"), "ret")
