@@ -5,7 +5,8 @@
     python3 tools/desk.py --names [SHOW.csp]       prints the names and writes no file
     python3 tools/desk.py --tell [TABLE [NAMES]]   prints CSP text that makes this table again
 
-The file - is standard input. A table may have a script behind it. Where NAMES is not given, SHOW.names beside
+The file - is standard input. A table may have a script behind it, and capitals and CR LF in its lines; one that is
+written has small letters and LF. Where NAMES is not given, SHOW.names beside
 SHOW.table or SHOW.txt is taken if it is there; what has no name, or one that the notation cannot have, is told by its
 number. A file that is there already is replaced only if each of its lines is one of a table, or of names; of names,
 comments and blank lines too, which are lost with it.
@@ -29,7 +30,8 @@ from tools.csp import CALL, KINDS, MOST_DEFINITIONS, MOST_EVENTS, PARALLEL, PATH
 TABLE_ROOM = 32_768  # bytes of text
 EDITION = 0x01
 HEAD, DEFINITION, TERM, END = 0x10, 0x11, 0x12, 0x1F
-TABLE_LINE = re.compile(rb"10[0-9a-f]{6}|11[0-9a-f]{2}|120[1-8]([0-9a-f]{2}){0,8}|1f[0-9a-f]{4}")
+FRAME_OF_A_TABLE = rb"10[0-9a-f]{6}|11[0-9a-f]{2}|120[1-8]([0-9a-f]{2}){0,8}|1f[0-9a-f]{4}"
+TABLE_LINE = re.compile(rb"(%b)(\r?\n)?" % FRAME_OF_A_TABLE, re.IGNORECASE)  # or the last, without its end
 BY_NUMBER = {"definition": "P", "event": "e"}  # how a name begins that has a number
 WINDOW = 100  # characters that are shown of a line
 
@@ -88,6 +90,25 @@ def compiled(text):
 # ---- from a table
 
 
+def lines_of(given):
+    """The bytes in pieces, each through its LF; what stands behind the last LF is a piece without one."""
+    return re.findall(rb"[^\n]*\n|[^\n]+", given)
+
+
+def line_fault(line):
+    """What keeps a piece from being a line, in words, or None: pairs of digits, small or capital, then LF or CR LF."""
+    characters = line.removesuffix(b"\n").removesuffix(b"\r")
+    if not line.endswith(b"\n"):
+        return "a line without LF at its end"
+    if not characters:
+        return "an empty line"
+    if b"\r" in characters:
+        return "a CR with no LF right behind it"
+    if re.search(rb"[^0-9a-fA-F]", characters):
+        return "a character that is no digit, 0-9, a-f or A-F"
+    return "an odd count of digits" if len(characters) % 2 else None
+
+
 class TableReader:
     """What the lines of a table have told so far. In a line the tests stand in the order of their numbers."""
 
@@ -104,7 +125,8 @@ class TableReader:
     def take(self, line):
         """The next line."""
         self.line += 1
-        self.test(re.fullmatch(rb"([0-9a-f]{2})+\n", line), 1, "not a line of hexadecimal digits in pairs, with its LF")
+        fault = line_fault(line)
+        self.test(fault is None, 1, fault)
         frame = bytes.fromhex(line.decode("ascii"))
         takers = {DEFINITION: self.take_definition, TERM: self.take_term, END: self.take_end}
         takers = takers if self.definitions else {HEAD: self.take_head}
@@ -151,9 +173,9 @@ class TableReader:
 
 
 def read_table(given):
-    """What the table at the front of some bytes tells. It goes through the first line that begins with 1f."""
-    lines = re.findall(rb"[^\n]*\n|[^\n]+", given)
-    last = next((count for count, line in enumerate(lines, 1) if line.startswith(b"1f")), len(lines))
+    """What the table at the front of some bytes tells. It goes through the first line that begins with 1f or 1F."""
+    lines = lines_of(given)
+    last = next((count for count, line in enumerate(lines, 1) if line.startswith((b"1f", b"1F"))), len(lines))
     reader = TableReader()
     reader.test(len(b"".join(lines[:last])) <= TABLE_ROOM, 6, f"the text is longer than {TABLE_ROOM:,} bytes")
     for line in lines[:last]:
@@ -229,7 +251,7 @@ def names_beside(file):
 
 
 def is_table(file):
-    return all(map(TABLE_LINE.fullmatch, file.read_bytes().splitlines()))
+    return all(map(TABLE_LINE.fullmatch, lines_of(file.read_bytes())))
 
 
 def is_names(file):

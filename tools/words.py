@@ -48,8 +48,10 @@ REST_NOTE = "A part that never took a step has no node; a choice's side that was
 EXPORT_AGAIN = "Export the text from the desk again, copy the whole of it, and do not edit it by hand."
 MEND = "Have the programmer mend or shorten the definition that stands before this line."
 RUN_IN_PARTS = "The steps above stand. Run the rehearsal in shorter parts."
+NO_LINE = 1
+STRICTER = "; in the track small letters, and LF alone"  # what is said of number 1 where it may be of a saved track
 REFUSAL_WORDS = {  # what is wrong, and what to do
-    1: ("it is not a line of hexadecimal digits in pairs", EXPORT_AGAIN),
+    NO_LINE: ("it is not a line: pairs of the digits 0-9, a-f or A-F, and then LF or CR LF", EXPORT_AGAIN),
     2: ("it is not a line that can stand there, or the text ends too early", EXPORT_AGAIN),
     3: ("a number in it is outside its range, or the number of terms is not the one counted", EXPORT_AGAIN),
     4: ("a definition is not complete there, or has a term too many", MEND),
@@ -174,7 +176,8 @@ def refusal_words(refusal, text):
     what, to_do = REFUSAL_WORDS[refusal[1]]
     line = numbers_of(refusal[2:])[0]
     where = f", line {line} of the {text}" if line else ""
-    return [f"refused, number {refusal[1]}{where}: {what}", f"  {to_do}"]
+    more = STRICTER if refusal[1] == NO_LINE and "track" in text else ""
+    return [f"refused, number {refusal[1]}{where}: {what}{more}", f"  {to_do}"]
 
 
 def place_words(node, names):

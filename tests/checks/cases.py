@@ -1,5 +1,5 @@
-"""The cases of document 01, A to M, and of document 02's W2, the edges around them, and the runs of the report's figures,
-kept as cases/NAME.in and NAME.out.
+"""The cases of document 01, A to M, and of document 02's W1 and W2, the edges around them, and the runs of the report's
+figures, kept as cases/NAME.in and NAME.out.
 
     python3 tests/checks/cases.py          runs target/bin/track on every input, handed over whole and in pieces
     python3 tests/checks/cases.py --make   writes every file again, the outputs by the independent program
@@ -39,6 +39,8 @@ PIECE_BYTES = (1, 2, 3, 5, 7, 11, 31, 4_093, 16_381)  # over and over
 TABLE_A = "10010101/1100/12060000000000000001/120200/1207/120200/1208/1f0005/".replace("/", "\n")
 SCRIPT_A = "200000/20000103/20000101/20000102/".replace("/", "\n")
 SCRIPT_B = "200000/20000103/20000102/20000101/".replace("/", "\n")
+TABLE_OF_SKIP = "10010100/1100/1207/1f0001/".replace("/", "\n")
+LETTERS = "1001010c/1100/12060000000000000c00/12020a/1207/12020a/1208/1f0005/200000/20000103/".replace("/", "\n")
 
 
 def text_of_case(draft, addresses):
@@ -75,9 +77,9 @@ def saved_in(length):
     return filled(sides, 20, length, steps_for(length, sides)[0]).text()
 
 
-def table_in(length):
+def table_in(length, skip="1207\n", last="1f0001\n"):
     """A table's text of exactly so many bytes, SKIP after SKIP behind a complete definition."""
-    return padded(["10010100", "1100", "1207"], Padding("", "1207\n", "1f0001\n"), length) + SCRIPT_A
+    return padded(["10010100", "1100", "1207"], Padding("", skip, last), length) + SCRIPT_A
 
 
 def edge_inputs():
@@ -96,8 +98,50 @@ def edge_inputs():
     }
 
 
+def with_crs(text):
+    return text.replace("\n", "\r\n")
+
+
+def with_last_crs(text, count):
+    """A text whose last so many lines end with CR LF."""
+    lines = text.splitlines(True)
+    return "".join(lines[:-count]) + with_crs("".join(lines[-count:]))
+
+
+def every_other_line_with_a_cr(text):
+    return "".join(with_crs(line) if number % 2 else line for number, line in enumerate(text.splitlines(True)))
+
+
+def spelt_inputs():
+    """Document 02's W1: capitals and CR LF in tables and scripts, and CRs anywhere else."""
+    table, step = TABLE_OF_SKIP, "200000\n"
+    full = accepted_steps(*[59] * 524, 1)  # a script of 65,516 bytes, in 526 lines
+    return {
+        "w1-a": with_crs((TABLE_A + SCRIPT_A).upper()),
+        "w1-capitals": (TABLE_A + SCRIPT_A).upper(),
+        "w1-cr-lf": with_crs(TABLE_A + SCRIPT_A),
+        "w1-letters": LETTERS.upper().replace("\n12020A", "\n12020a", 1),
+        "w1-mixed": every_other_line_with_a_cr(TABLE_A.replace("1f", "1F") + SCRIPT_A),
+        "w1-cr-in-a-line": table.replace("1207", "12\r07") + step,
+        "w1-two-crs": table.replace("1207", "1207\r\r") + step,
+        "w1-cr-before-a-line": table.replace("1207", "\r1207") + step,
+        "w1-cr-lf-alone": table.replace("1207", "\r\n1207") + step,
+        "w1-crs-alone": (table + step).replace("\n", "\r"),
+        "w1-table-without-last-lf": table[:-1] + "\r",
+        "w1-script-without-last-lf": table + step + step[:-1] + "\r",
+        "w1-script-cr-in-a-line": table + step + "2000\r00\n" + step,
+        "w1-script-cr-lf-alone": table + step + "\r\n" + step,
+        "w1-no-good-last-line": table.replace("1f0001", "1Fxx") + TABLE_ROOM // len(step) * step,
+        "w1-short-last-line": table.replace("1f0001", "1F") + step,
+        "w1-table-32768": table_in(TABLE_ROOM, "1207\r\n", "1F0001\r\n"),
+        "w1-table-32769": table_in(TABLE_ROOM + 1, "1207\r\n", "1F0001\r\n"),
+        "w1-script-65536": with_last_crs(full, 20),
+        "w1-script-65537": with_last_crs(full, 21),
+    }
+
+
 def all_inputs():
-    return case_inputs() | run_inputs(STUCK_CASES) | run_inputs(FIGURES) | edge_inputs()
+    return case_inputs() | run_inputs(STUCK_CASES) | run_inputs(FIGURES) | edge_inputs() | spelt_inputs()
 
 
 def make():

@@ -1,4 +1,4 @@
-"""Tests of the kept cases: their outputs are the independent program's, and say what document 01 says of each, or
+"""Tests of the kept cases: their outputs are the independent program's, and say what documents 01 and 02 say of each, or
 the report of its own runs.
 
 A text is written as document 01 writes its case A: `/` for LF.
@@ -120,6 +120,54 @@ class Cases(unittest.TestCase):
 
     def test_m(self):
         self.assertEqual(told("m"), ["4100", "3001000000000000", "3f"])
+
+
+class SpeltCases(unittest.TestCase):
+    """What document 02's W1 says of capitals and CRs."""
+
+    def test_a_in_other_spellings(self):
+        expected = {
+            "w1-a": "10010101\r/1100\r/12060000000000000001\r/120200\r/1207\r/120200\r/1208\r/1F0005\r/"
+            "200000\r/20000103\r/20000101\r/20000102\r/",
+            "w1-capitals": "10010101/1100/12060000000000000001/120200/1207/120200/1208/1F0005/"
+            "200000/20000103/20000101/20000102/",
+            "w1-cr-lf": "10010101\r/1100\r/12060000000000000001\r/120200\r/1207\r/120200\r/1208\r/1f0005\r/"
+            "200000\r/20000103\r/20000101\r/20000102\r/",
+            "w1-mixed": "10010101/1100\r/12060000000000000001/120200\r/1207/120200\r/1208/1F0005\r/"
+            "200000/20000103\r/20000101/20000102\r/",
+        }
+        for name, given in expected.items():
+            self.assertEqual(cases.kept(name), (text(given), cases.kept("a")[1]), name)
+
+    def test_letters_beyond_the_last_line(self):
+        self.assertIn(b"\n12060000000000000C00\n12020a\n1207\n12020A\n", cases.kept("w1-letters")[0])
+        self.assertEqual((events_and_status("w1-letters"), refusals("w1-letters")), ("4000/40020a/4100", []))
+
+    def test_crs_elsewhere_in_a_table(self):
+        for name in ("w1-cr-in-a-line", "w1-two-crs", "w1-cr-before-a-line", "w1-cr-lf-alone"):
+            self.assertEqual(told(name), ["4e010003"], name)
+        self.assertEqual(told("w1-crs-alone"), ["4e010001"])
+        self.assertEqual(told("w1-table-without-last-lf"), ["4e010004"])
+
+    def test_crs_elsewhere_in_a_script(self):
+        for name in ("w1-script-without-last-lf", "w1-script-cr-in-a-line", "w1-script-cr-lf-alone"):
+            self.assertEqual((events_and_status(name), refusals(name)), ("4000/4100", ["4e010002"]), name)
+
+    def test_a_last_line_that_is_refused_ends_the_table_too(self):
+        self.assertEqual(told("w1-no-good-last-line"), ["4e010004"])
+        self.assertEqual(told("w1-short-last-line"), ["4e020004"])
+
+    def test_rooms_count_crs(self):
+        for length, refusal in ((TABLE_ROOM, "4e040004"), (TABLE_ROOM + 1, "4e060000")):
+            table, _ = cut_input(cases.kept(f"w1-table-{length}")[0])
+            self.assertEqual((len(table), told(f"w1-table-{length}")), (length, [refusal]))
+            self.assertLess(len(table.replace(b"\r", b"")), TABLE_ROOM)
+        for length, crs in ((SCRIPT_ROOM, 20), (SCRIPT_ROOM + 1, 21)):
+            _, script = cut_input(cases.kept(f"w1-script-{length}")[0])
+            self.assertEqual((len(script), script.count(b"\r\n")), (length, crs))
+        full = "w1-script-65536"
+        self.assertEqual((events_and_status(full), refusals(full)), ("4000/" * 526 + "4100", []))
+        self.assertEqual(told("w1-script-65537"), ["4e060000"])
 
 
 class StuckCases(unittest.TestCase):

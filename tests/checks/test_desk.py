@@ -312,7 +312,8 @@ class Files(unittest.TestCase):
 
     def there(self):
         """The files that are there, but for the source."""
-        return {file.name: file.read_text("utf-8") for file in self.folder.iterdir() if file.suffix != ".csp"}
+        files = [file for file in self.folder.iterdir() if file.suffix != ".csp"]
+        return {file.name: file.read_bytes().decode("utf-8") for file in files}
 
     def desk(self, *arguments, given=""):
         return run_desk(*arguments, given=given.encode("utf-8"), folder=self.folder)
@@ -326,10 +327,12 @@ class Files(unittest.TestCase):
 
     def test_another_table_is_replaced(self):
         self.put("show.csp", self.TEXT)
-        self.put("show.table", frames.cut_input((EXAMPLES / "casino.txt").read_bytes())[0] + b"1f0000")
-        self.put("show.names", (EXAMPLES / "casino.names").read_bytes())
-        self.assertEqual(self.desk("show.csp")[2], 0)
-        self.assertEqual(self.there(), {"show.table": self.TABLE, "show.names": self.NAMES})
+        table = frames.cut_input((EXAMPLES / "casino.txt").read_bytes())[0]
+        for text in (table + b"1f0000", table.upper().replace(b"\n", b"\r\n")):
+            self.put("show.table", text)
+            self.put("show.names", (EXAMPLES / "casino.names").read_bytes())
+            self.assertEqual(self.desk("show.csp")[2], 0)
+            self.assertEqual(self.there(), {"show.table": self.TABLE, "show.names": self.NAMES})
 
     def test_names_with_comments_are_replaced(self):
         self.put("show.csp", self.TEXT)
@@ -342,7 +345,7 @@ class Files(unittest.TestCase):
         self.put("show.csp", self.TEXT)
         for name, text in (
             ("show.table", "a table\n"), ("show.table", self.TABLE + "200000\n"), ("show.table", "1209\n"),
-            ("show.table", "1100\n\n"), ("show.names", "definition 0 SHOW\nmine\n"),
+            ("show.table", "1100\n\n"), ("show.table", "1100\r\r\n"), ("show.names", "definition 0 SHOW\nmine\n"),
             ("show.names", "event 0 up\nevent 0 go\n"), ("show.names", "event 64 up\n"),
         ):
             self.put(name, text)
@@ -447,12 +450,26 @@ S = event_0 -> event_1 -> event_2 -> event_3 -> event_4 -> S [] S
             ((b"120200", b"120201"), "number 3, line 3: a definition or an event that the first line does not count"),
             ((b"120100\n", b""), "number 3, line 6: not the count of the terms, 2"),
             ((b"1101\n", b""), "number 4, line 5: a term too many for its definition"),
-            ((b"1100", b"11OO"), "number 1, line 2: not a line of hexadecimal digits in pairs, with its LF"),
+            ((b"1100", b"11OO"), "number 1, line 2: a character that is no digit, 0-9, a-f or A-F"),
+            ((b"1100\n", b"1100\r"), "number 1, line 2: a CR with no LF right behind it"),
+            ((b"1100", b"1100\r\r"), "number 1, line 2: a CR with no LF right behind it"),
+            ((b"1100", b"\r"), "number 1, line 2: an empty line"),
+            ((b"1100", b"110"), "number 1, line 2: an odd count of digits"),
+            ((b"1f0003\n", b"1F0003\r"), "number 1, line 7: a line without LF at its end"),
             ((b"1f0003\n", b""), "number 2, line 7: the text ends early, before its line 1f"),
             ((b"1f0003\n", b"3f" * 20_000), "number 6: the text is longer than 32,768 bytes"),
         ):
             printed, told, status = run_desk("--tell", given=self.TABLE.replace(*change))
             self.assertEqual((printed, told, status), ("", f"desk: standard input: refused, {said}\n", 2))
+
+    def test_capitals_and_crs_change_nothing(self):
+        events = "a, b, c, d, e, f, g, h, i, j, k, l"
+        table = desk.compiled(f"channel {events} S = l -> S [| {{k, l}} |] k -> SKIP").table.encode("ascii")
+        self.assertEqual(set(re.findall("[a-f]", table.decode("ascii"))), set("abcf"))
+        for spelt in (table.upper(), table.replace(b"\n", b"\r\n"), table.upper().replace(b"\n", b"\r\n", 3)):
+            for script in (b"", b"200000\r\n"):
+                self.assertEqual(desk.told(spelt + script, {}), desk.told(table, {}))
+                self.assertEqual(desk.skips_in(spelt + script), desk.skips_in(table))
 
     def test_long_lines_are_folded(self):
         self.assertEqual(csp.written(desk.compiled(self.FOLDED).show), self.FOLDED)

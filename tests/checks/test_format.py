@@ -1,7 +1,7 @@
 """Tests of docs/FORMAT.md: every example of the page is run, by the independent program, the desk and the words.
 
 A block of the page has a kind, and most have a name, behind the opening fence. In a block of frames each line begins
-with a frame. In tables and sentences `/` stands for LF.
+with a frame. In tables and sentences `/` stands for LF and `\\r` for CR.
 """
 
 import re
@@ -44,7 +44,12 @@ def in_code(cell):
 
 
 def with_feeds(written):
-    return written.replace("/", "\n").encode("ascii")
+    return written.replace("/", "\n").replace(r"\r", "\r").encode("ascii")
+
+
+def line_in(written):
+    """The bytes of a line whose end is told by its signs."""
+    return written.encode("ascii").decode("unicode_escape").encode("ascii")
 
 
 def block_text(kind, name):
@@ -90,11 +95,27 @@ def literals_of(table, show):
 
 
 class Frames(unittest.TestCase):
-    def test_lines(self):
-        self.assertEqual(len(rows("characters")), 7)
-        for characters, told in rows("characters"):
-            line = in_code(characters).encode("ascii").decode("unicode_escape").encode("ascii")
-            self.assertEqual(frames.frame_of(line) is None, told.startswith("no line: "), characters)
+    def hold_lines(self, heading, frame_of):
+        """Gives the lines below a heading, those that are lines and those that are none."""
+        taken, refused = [], []
+        for characters, told in rows(heading):
+            line, same = line_in(in_code(characters)), re.search("the same as `(.*?)`", told)
+            frame = frame_of(line)
+            self.assertEqual(frame is None, told.startswith("no line: "), characters)
+            self.assertEqual(frame, frame_of(line_in(same[1])) if same else frame, characters)
+            (refused if frame is None else taken).append(line)
+        return taken, refused
+
+    def test_lines_of_tables_and_scripts(self):
+        taken, refused = self.hold_lines("in a table or script", frames.liberal_frame_of)
+        self.assertEqual((len(taken), len(refused)), (5, 8))
+        self.assertEqual([desk.line_fault(line) for line in taken], [None] * 5)
+        self.assertNotIn(None, map(desk.line_fault, refused))
+
+    def test_lines_of_saved_tracks(self):
+        taken, refused = self.hold_lines("in a saved track", frames.strict_frame_of)
+        self.assertEqual((len(taken), len(refused)), (1, 6))
+        self.assertTrue(any(frames.liberal_frame_of(line) for line in refused))
 
     def test_forms(self):
         shown = [in_code(row[3]) for row in rows("no.")]
@@ -205,6 +226,19 @@ def order_of(listing):
 
 
 class Listings(unittest.TestCase):
+    def test_what_is_written_is_strict(self):
+        table, script = map(with_feeds, CASE_A[1:])
+        spelt = (table + script).upper().replace(b"\n", b"\r\n")
+        self.assertEqual(rules.listing(spelt), rules.listing(table + script))
+        self.assertNotIn(None, map(frames.strict_frame_of, frames.split_lines(rules.listing(spelt))))
+
+    def test_where_a_table_ends(self):
+        starts = re.search("The table ends behind the first line of the input that begins with `(..)` or `(..)`", PAGE)
+        for start in starts.groups():
+            given = with_feeds(f"10010100/{start}x/200000/")
+            self.assertEqual(frames.cut_input(given)[1], b"200000\n")
+            self.assertEqual(rules.listing(given), b"4e010002\n")
+
     def test_which_frames_stand_when(self):
         self.assertEqual(len(rows("input")), 7)
         for where, told, case in rows("input"):
@@ -276,7 +310,7 @@ class Refusals(unittest.TestCase):
     def test_what_is_told_and_what_stays(self):
         for number, what, cell, told, stays in rows("no."):
             given, told = whole_input(cell), in_code(told)
-            listed = (saved.reread_listing if number == "13" else rules.listing)(given).decode("ascii").split()
+            listed = (saved.reread_listing if stays == "outputs" else rules.listing)(given).decode("ascii").split()
             self.assertEqual(f"4e{int(number):02x}", told[:4])
             self.assertEqual([line for line in listed if line.startswith("4e")][0], told, what)
             if stays in ("all", "outputs"):

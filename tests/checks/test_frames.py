@@ -1,4 +1,4 @@
-"""Tests of the independent program's frames, against answers written by hand from document 01.
+"""Tests of the independent program's frames, against answers written by hand from document 01 and document 02's W1.
 
 A text is written as document 01 writes its case A: `/` for LF.
 """
@@ -7,7 +7,10 @@ import unittest
 
 from tests.generators import tables
 from tests.generators.families import DEFAULT_SEED
-from tests.independent.frames import Place, Refusal, Table, event_place, judge_script_line, judge_table, listing
+from tests.independent.frames import (
+    Place, Refusal, Table, cut_input, event_place, judge_script_line, judge_table, liberal_frame_of, listing,
+    strict_frame_of,
+)
 
 CASE_A_TABLE = "10010101/1100/12060000000000000001/120200/1207/120200/1208/1f0005/"
 CASE_A_SCRIPT = "200000/20000103/20000101/20000102/"
@@ -184,8 +187,8 @@ class Readings(unittest.TestCase):
         self.assertEqual(told(""), ["table refused 2 at line 1"])
 
     def test_03_characters_that_no_line_has(self):
-        blanks = ("", "1100\r", " 1100", "1100 ", "11 00", "1100\t", "110\0", "1100\0")
-        others = ("11A0", "1F0001", "110g", "1:00", "1`00", "\xff", "1", "110")
+        blanks = ("", " 1100", "1100 ", "11 00", "1100\t", "110\0", "1100\0")
+        others = ("110g", "110G", "1:00", "1`00", "1@00", "\xff", "1", "110")
         for line in blanks + others:
             self.assertEqual(table_answer(f"10010100/{line}/"), (1, 2), repr(line))
             self.assertEqual(script_answer(line + "/"), 1, repr(line))
@@ -272,9 +275,72 @@ class Readings(unittest.TestCase):
         self.assertEqual(told("10010100/1100/1207/1f000/200000/"), ["table refused 1 at line 4"])
         self.assertEqual(told("10010100/1100/1207/1f0001"), ["table refused 1 at line 4"])
         self.assertEqual(told("10010100/1fxx/" + "200000/" * 5_000), ["table refused 1 at line 2"])
-        self.assertEqual(told("10010100/1F0000/" + "200000/" * 5_000), ["table refused 6 at line 0"])
+        self.assertEqual(told("10010100/1e0000/" + "200000/" * 5_000), ["table refused 6 at line 0"])
         self.assertEqual(told("10010100/1100/1207/" + "200000/"), ["table refused 2 at line 4"])
         self.assertEqual(told(SKIP_TABLE + "1f0001/")[-1], "script refused 2 at line 1")
+
+
+class Spelling(unittest.TestCase):
+    """Document 02's W1: what lines of tables and scripts may have, and those of saved tracks may not."""
+
+    def test_strict_and_liberal_lines(self):
+        for line, strict, liberal in (
+            (b"1f0b\n", b"\x1f\x0b", b"\x1f\x0b"),
+            (b"1F0B\n", None, b"\x1f\x0b"),
+            (b"1f0B\n", None, b"\x1f\x0b"),
+            (b"1f0b\r\n", None, b"\x1f\x0b"),
+            (b"1F0b\r\n", None, b"\x1f\x0b"),
+            *((line, None, None) for line in (b"", b"\n", b"\r\n", b"1f0b", b"1f0b\r", b"1f\r0b\n", b"1f\r0b\r\n")),
+            *((line, None, None) for line in (b"\r1f0b\n", b"1f0b\r\r\n", b"1f0b\n\r", b"1G\n", b"1F0\n", b"1F0\r\n")),
+        ):
+            self.assertEqual((strict_frame_of(line), liberal_frame_of(line)), (strict, liberal), line)
+
+    def test_case_a_in_capitals_with_cr_lf(self):
+        given = CASE_A_TABLE + CASE_A_SCRIPT
+        for spelt in (given.upper(), given.replace("/", "\r/"), given.upper().replace("/", "\r/")):
+            self.assertEqual(told(spelt), told(given))
+
+    def test_mixed_lines(self):
+        every_event = "10010140/1100/1206ffffffffffffffff/1207/12023F/1207/1f0004/200000/"
+        mixed = "10010140\r/1100/1206FFFFffffFFFFffff/1207\r/12023F\r/1207/1F0004/200000\r/"
+        self.assertEqual(told(mixed), told(every_event.replace("3F", "3f")))
+
+    def test_a_cr_elsewhere(self):
+        for third in ("12\r07/", "1207\r\r/", "\r1207/", "\r/", "1207\r", "1207\r\r"):
+            self.assertEqual(table_answer("10010100/1100/" + third), (1, 3), repr(third))
+        for line in ("20\r0000/", "200000\r\r/", "\r200000/", "\r/", "200000\r"):
+            self.assertEqual(script_answer(line), 1, repr(line))
+
+    def test_a_cr_alone_ends_no_line(self):
+        self.assertEqual(table_answer(SKIP_TABLE.replace("/", "\r")), (1, 1))
+        self.assertEqual(told(SKIP_TABLE + "200000\r20000101\r")[3:], ["script refused 1 at line 1"])
+        self.assertEqual(told(SKIP_TABLE + "200000\r20000101/")[3:], ["script refused 1 at line 1"])
+
+    def test_numbers_behind_the_characters(self):
+        self.assertEqual(table_answer("10010101\r/1100/1202FF\r/"), (3, 3))
+        self.assertEqual(table_answer("10010100/1100/1207\r/1F0001\r/1F0001/"), (2, 5))
+        self.assertEqual(table_answer("10010100\r/1100\r/1207\r/"), (2, 4))
+        self.assertEqual(script_answer("200001FF\r/"), 3)
+        self.assertEqual(script_answer("2F\r/"), 2)
+
+    def test_1f_in_capitals_ends_a_table(self):
+        for last in ("1F0001/", "1F0001\r/", "1F/", "1Fxx/", "1F0/", "1F0001\r\r/", "1F\r/", "1f0001\r/"):
+            table, script = "10010100/1100/1207/" + last, "200000/"
+            self.assertEqual(cut_input(text(table + script)), (text(table), text(script)))
+        for other in ("1\rF0001/", "\r1F0001/", "F1/", "1E0001/", "01F001/"):
+            given = text("10010100/1100/1207/" + other + "200000/")
+            self.assertEqual(cut_input(given), (given, b""))
+        self.assertEqual(told("10010100/1Fxx/" + "200000/" * 5_000), ["table refused 1 at line 2"])
+
+    def test_room_for_a_table_counts_its_crs(self):
+        lines = "1207\r/" * 5_461  # 32,766 bytes
+        self.assertEqual(table_answer(lines + "12"), (2, 1))
+        self.assertEqual(table_answer(lines + "12/"), (6, 0))
+
+    def test_room_for_a_script_counts_its_crs(self):
+        lines = "200000\r/" * 8_191  # 65,528 bytes
+        self.assertEqual(told(SKIP_TABLE + lines + "200000\r/")[-1], "step 8192 -")
+        self.assertEqual(told(SKIP_TABLE + lines + "20000101/")[3:], ["script refused 6 at line 0"])
 
 
 class GoodInputs(unittest.TestCase):

@@ -49,6 +49,7 @@ class Damage(unittest.TestCase):
             inputs.with_bytes_inserted,
             inputs.with_bytes_removed,
             inputs.with_foreign_characters,
+            inputs.with_returns_out_of_place,
             inputs.without_a_line_feed,
             inputs.with_end_lines_in_odd_places,
         ):
@@ -59,12 +60,13 @@ class Damage(unittest.TestCase):
         self.assertLessEqual(expected, self.outcomes(inputs.with_lines_damaged))
 
     def test_end_lines_in_odd_places(self):
-        """A short one, one without its LF, one in the script, and none at all."""
+        """A short one, one with a capital, one without its LF, one in the script, and none at all."""
         texts = [cut_input(given) for given in made(inputs.with_end_lines_in_odd_places, 200)]
         self.assertTrue(any(table.endswith(b"\n1f\n") for table, _ in texts))
+        self.assertTrue(any(table.endswith(b"\n1F0001\n") for table, _ in texts))
         self.assertTrue(any(b"\n1f" in table[:-1] and not table.endswith(b"\n") for table, _ in texts))
         self.assertTrue(any(b"\n1f" in script for _, script in texts))
-        self.assertTrue(any(b"\n1f" not in table for table, _ in texts))
+        self.assertTrue(any(b"\n1f" not in table.lower() for table, _ in texts))
 
 
 class RoomsForText(unittest.TestCase):

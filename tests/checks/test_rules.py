@@ -8,7 +8,7 @@ import random
 import unittest
 
 from tests.generators import tables
-from tests.independent.frames import PARALLEL, SEQUENCE, STOP, Refusal, judge_table
+from tests.independent.frames import PARALLEL, SCRIPT_ROOM, SEQUENCE, STOP, Refusal, judge_table
 from tests.independent.rules import (
     ENDED, LIVE, OMEGA, STUCK, TAU, TICK, Run, Sides, Started, Tree, listing, offers, opened, outcome, play_listing,
     play_outcome, saved_text, status,
@@ -129,6 +129,27 @@ class Listing(unittest.TestCase):
     def test_script_over_its_room(self):
         given = "10010100/1100/1207/1f0001/" + "200000/" * 9_363
         self.assertEqual(listing(text(given)), text("4e060000/"))
+
+    def test_capitals_and_cr_lf(self):
+        """Document 02's W1: what is printed has small letters and LF, whatever was read."""
+        given = "10010101/1100/" + CASE_A[0] + "1f0005/200000/20000103/20000101/20000102/"
+        for spelt in (given.upper(), given.replace("/", "\r/"), given.upper().replace("/", "\r/")):
+            self.assertEqual(listing(text(spelt)), listing(text(given)))
+            self.assertEqual(play_listing(text(spelt)), play_listing(text(given)))
+
+    def test_a_cr_elsewhere(self):
+        for third in ("12\r07/", "1207\r\r/", "\r/1207/"):
+            given = "10010100/1100/" + third + "1f0001/200000/"
+            self.assertEqual(listing(text(given)), text("4e010003/"), repr(third))
+        given = "10010100/1100/1207/1F0001\r/200000\r/200000\r"
+        told = "4000/4100/4e010002/3001000100000000/310000000100/3f/"
+        self.assertEqual(listing(text(given)), text(told))
+
+    def test_a_script_whose_crs_fill_its_room(self):
+        table, script = "10010100/1100/120100/1f0001/", "200000\r/" * 4_096 + "200000/" * 4_681 + "\r"
+        self.assertEqual(len(script), SCRIPT_ROOM)
+        self.assertEqual(listing(text(table + script)), text("4000/" * 4_096 + "4100/4e091001/4e0c0000/"))
+        self.assertEqual(listing(text(table + script + "/")), text("4e060000/"))
 
     def test_save_over_its_slice(self):
         given = "10010100/1100/120100/1f0001/" + "200000/" * 4_097

@@ -229,12 +229,13 @@ class AtOnce(OwnHouse):
 
 class Words(OwnHouse):
     def test_the_table_at_the_front_tells_what_has_ended(self):
-        self.at.put("kit/program", "#!/bin/sh\nexec sed '1,/^1f/d'\n")  # prints what stands behind the table
+        self.at.put("kit/program", "#!/bin/sh\nexec sed '1,/^1[fF]/d'\n")  # prints what stands behind the table
         track = b"4100\n3001000200010000\n310000000100\n3100010000\n3200000001\n3f\n"
         for kind, heading in ((b"1207", words.SOUND_WORDS), (b"1208", words.REST_WORDS[0])):
             table = b"10010100\n1100\n" + kind + b"\n1f0001\n"
-            lines = self.at.outcome("--words", given=table + track)[0].decode("utf-8").splitlines()
-            self.assertEqual(lines[-3:-1], [heading, "  node 1    definition 0, the whole right-hand side"])
+            for spelt in (table, table.upper().replace(b"\n", b"\r\n")):
+                lines = self.at.outcome("--words", given=spelt + track)[0].decode("utf-8").splitlines()
+                self.assertEqual(lines[-3:-1], [heading, "  node 1    definition 0, the whole right-hand side"])
 
 
 class Proving(OwnHouse):

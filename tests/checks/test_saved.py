@@ -64,6 +64,22 @@ class Lines(unittest.TestCase):
         self.assertEqual(refusal_of(with_line("3100010000/", "310001000/")), (1, 3))
         self.assertEqual(refusal_of("3001000000000000/3F/"), (1, 2))
 
+    def test_spellings_that_a_table_may_have(self):
+        """Document 02's W1 leaves saved tracks as strict as they were."""
+        self.assertEqual(refusal_of(CASE_A_TRACK.replace("/", "\r/")), (1, 1))
+        self.assertEqual(refusal_of(CASE_A_TRACK.replace("3f/", "3F/")), (1, 18))
+        self.assertEqual(refusal_of(CASE_A_TRACK.replace("3f/", "3f\r/")), (1, 18))
+        self.assertEqual(refusal_of(CASE_A_TRACK.replace("3f/", "3f\r")), (1, 18))
+        self.assertEqual(refusal_of(with_line("3100010000/", "3100010000\r/")), (1, 3))
+        self.assertEqual(refusal_of(with_line("3100010000/", "31\r00010000/")), (1, 3))
+        self.assertEqual(refusal_of(with_line("3100010000/", "3100010000\r\r/")), (1, 3))
+        self.assertEqual(refusal_of(with_line("3100010000/", "\r/3100010000/")), (1, 3))
+        self.assertEqual(refusal_of(CASE_A_TRACK.replace("/", "\r")), (1, 1))
+
+    def test_a_track_behind_a_respelt_table(self):
+        for spelt in (TABLE_A.upper(), TABLE_A.replace("/", "\r/"), TABLE_A.upper().replace("/", "\r/")):
+            self.assertEqual(reread_listing(text(spelt + CASE_A_TRACK)), text(CASE_A_TRACK))
+
     def test_behind_the_last_line(self):
         self.assertEqual(refusal_of(CASE_A_TRACK + "3f/"), (2, 19))
         self.assertEqual(refusal_of(CASE_A_TRACK + "/"), (1, 19))

@@ -123,6 +123,18 @@ class Refusals(unittest.TestCase):
         self.assertEqual(sorted(words.REFUSAL_WORDS), list(range(1, 14)))
         self.assertEqual(len({what for what, _ in words.REFUSAL_WORDS.values()}), 13)
 
+    def test_what_is_a_line(self):
+        """Capitals and CR LF are no fault of a table or script, and are one of a saved track."""
+        of_a_table, of_a_script, of_either = (
+            words.refusal_words(bytes((0x4E, 1, 0, 3)), text)[0].partition(": ")[2]
+            for text in ("table", "script", "table or of the track")
+        )
+        self.assertEqual(
+            of_a_table, "it is not a line: pairs of the digits 0-9, a-f or A-F, and then LF or CR LF"
+        )
+        self.assertEqual(of_a_script, of_a_table)
+        self.assertEqual(of_either, of_a_table + "; in the track small letters, and LF alone")
+
     def test_a_table_refused(self):
         for number in OF_A_TABLE:
             self.assert_tells(told(f"4e{number:02x}0102/"), number, ", line 258 of the table")

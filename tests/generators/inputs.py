@@ -20,6 +20,7 @@ from tests.generators.runs import (
     E0, E0_STOP, NO_EVENT, SKIP_SKIP, SKIPS, STOPS, Script, call, finished, nest_of, parallel, parallel_on, prefixes,
     sequence, some_shape, table_of,
 )
+from tests.generators.spelling import damage_by_returns, respelt
 from tests.generators.tables import (
     assemble, damage_by_foreign, damage_line, part_damaged, script_of_length, small_table, step_line, term_line,
     text_of,
@@ -32,12 +33,18 @@ INPUT_ROOM = TABLE_ROOM + SCRIPT_ROOM
 FAR_OVER = 200_000  # bytes
 
 
-def some_run(rng):
+def some_strict_run(rng):
     """A case of document 01, or a run of a few steps."""
     if rng.random() < 0.2:
         return runs.of_a_case(rng)
     manner = rng.choice((runs.OF_ALL_KINDS, runs.THAT_ENDS, runs.THAT_MEETS))
     return runs.run_of_a_manner(rng, manner, rng.randint(0, 12))
+
+
+def some_run(rng):
+    """The same, one in eight with capitals, CR LF or both."""
+    text = some_strict_run(rng)
+    return respelt(rng, text) if rng.random() < 0.125 else text
 
 
 def texts_of(text):
@@ -101,6 +108,10 @@ def with_foreign_characters(rng):
     return damaged(rng, damage_by_foreign)
 
 
+def with_returns_out_of_place(rng):
+    return damaged(rng, damage_by_returns)
+
+
 def with_lines_damaged(rng):
     """Lines dropped, repeated, exchanged or moved, in the table, in the script or across."""
     lines = some_run(rng).split("\n")
@@ -117,14 +128,17 @@ def without_a_line_feed(rng):
     return text[:where] + text[where + 1 :]
 
 
-END_LINES = ("1f", "1f", "1f0", "1f00", "1f000", "1f0001", "1f0001", "1f000100", "1fx", "1f\r", "1f\0")
-NO_END_LINES = ("1F0001", " 1f0001", "\r1f0001", "01f0001", "1", "f1", "1e0001", "")
+END_LINES = (
+    *("1f", "1f", "1f0", "1f00", "1f000", "1f0001", "1f0001", "1f000100", "1fx", "1f\r", "1f\0"),
+    *("1F", "1F0", "1F0001", "1F0001\r", "1F0001\r\r", "1f0001\r", "1Fx", "1F\r00"),
+)
+NO_END_LINES = (" 1f0001", "\r1f0001", "1\rf0001", "01f0001", "1", "f1", "F1", "1e0001", "1E0001", "")
 
 
 def with_end_lines_in_odd_places(rng):
-    """A line that begins with `1f`, or nearly so: anywhere, beside the table's end, or last, without its LF."""
+    """A line that begins with `1f` or `1F`, or nearly so: anywhere, beside the table's end, or last, without its LF."""
     lines = some_run(rng).split("\n")
-    end = next(number for number, line in enumerate(lines) if line.startswith("1f"))
+    end = next(number for number, line in enumerate(lines) if line.startswith(("1f", "1F")))
     where = rng.choice((0, end, end + 1, len(lines) - 1, rng.randrange(len(lines))))
     odd = lines[:where] + [rng.choice(rng.choice((END_LINES, END_LINES, NO_END_LINES)))]
     return "\n".join(odd if rng.random() < 0.3 else odd + lines[where + rng.randint(0, 1) :])
@@ -134,7 +148,7 @@ def with_end_lines_in_odd_places(rng):
 
 
 BYTES = "".join(map(chr, range(256)))
-ALPHABETS = (BYTES, "0123456789abcdef\n", "0123456789abcdef", "01f2\n", "1f\n", "\n\r\0 ")
+ALPHABETS = (BYTES, "0123456789abcdef\n", "0123456789abcdef", "01f2\n", "1f\n", "1fF\r\n", "\n\r\0 ")
 
 
 def empty(_):
@@ -170,13 +184,13 @@ def by_an_edge(rng, room):
 
 
 def padded_table(rng, length):
-    """A table's text of exactly so many bytes, through its `1f` line."""
+    """A table's text of exactly so many bytes, through its `1f` or `1F` line."""
     _, *ended = tables.some_paddings(rng)
     return tables.padded(tables.start_of_a_table(rng), rng.choice(ended), length)
 
 
 def endless_table(rng, length):
-    """A text of exactly so many bytes without a `1f` line."""
+    """A text of exactly so many bytes without a `1f` or `1F` line."""
     endless, *_ = tables.some_paddings(rng)
     return tables.padded(tables.start_of_a_table(rng), endless, length)
 
@@ -195,10 +209,10 @@ def without_an_end_line(rng):
 
 
 def with_an_end_line_across_the_room(rng):
-    """A `1f` line that begins by the edge of the room for a table's text, and may not end there, or not at all."""
+    """A `1f` or `1F` line that begins by the edge of a table's room, and may not end there, or not at all."""
     before = endless_table(rng, TABLE_ROOM - rng.choice((0, 1, 2, 3, 4, 7, 8)))
-    end = rng.choice(("1", "1f", "1f0", "1f0000", "1f" + "00" * rng.randint(1, 40_000)))
-    return before + end + rng.choice(("", "\n", "\n" + some_script(rng)))
+    end = rng.choice(("1", "1f", "1F", "1f0", "1f0000", "1F0000", "1f" + "00" * rng.randint(1, 40_000)))
+    return before + end + rng.choice(("", "\n", "\r\n", "\n" + some_script(rng), "\r\n" + some_script(rng)))
 
 
 def by_the_rooms_for_both_texts(rng):
@@ -331,9 +345,9 @@ def far_over_the_room_for_saved_text(rng):
 # how many of a thousand inputs are of each family
 SHARES = {
     # runs
-    runs.of_all_kinds: 85,
-    runs.that_ends: 60,
-    runs.that_meets: 65,
+    runs.of_all_kinds: 75,
+    runs.that_ends: 55,
+    runs.that_meets: 60,
     runs.of_any_table: 40,
     runs.of_a_case: 20,
     runs.in_many_sides: 25,
@@ -341,9 +355,10 @@ SHARES = {
     runs.to_a_dead_end: 30,
     runs.of_many_events: 30,
     runs.by_a_long_address: 20,
+    runs.of_another_spelling: 40,
     of_the_longest_table: 10,
     # tables
-    runs.as_judged: 160,
+    runs.as_judged: 110,
     # cut short, damaged and made up
     cut_short: 50,
     with_bits_flipped: 40,
@@ -351,6 +366,7 @@ SHARES = {
     with_bytes_removed: 30,
     with_lines_damaged: 40,
     with_foreign_characters: 30,
+    with_returns_out_of_place: 30,
     without_a_line_feed: 20,
     with_end_lines_in_odd_places: 30,
     made_up_bytes: 15,

@@ -17,6 +17,7 @@ if __name__ == "__main__":  # as a command, too, packages are found from the rep
 
 from tests.generators import tables
 from tests.generators.families import Families, command
+from tests.generators.spelling import respelt, with_returns
 from tests.generators.tables import any_script_line, assemble, some_place, step_line, term_line, text_of, within
 from tests.independent import rules
 from tests.independent.frames import (
@@ -892,14 +893,22 @@ def lines_of_length(rng, length, longest):
 
 
 def by_the_room_for_script_text(rng):
-    """Accepted steps only, in a script of as many bytes as fit, one less or one more."""
+    """Accepted steps only, in a script of as many bytes as fit, one less or one more, of which some may be CRs."""
     sides = nest_of(rng, "right", parallel_on(NO_EVENT), [call(1)] * LONGEST_NEST)
     draft = table_of(sides.term, rng.choice((call(1), prefixes((0, 1), call(1)))))
-    length = SCRIPT_ROOM + rng.choice((-1, 0, 0, 1))
+    length, returns = SCRIPT_ROOM + rng.choice((-1, 0, 0, 1)), rng.choice((0, 1, 300))
     first = step_line(())
-    counts = lines_of_length(rng, length - len(first) - 1, LONGEST_NEST - 1)
+    counts = lines_of_length(rng, length - returns - len(first) - 1, LONGEST_NEST - 1)
     lines = [first] + [step_line(sides.parts[count - 1]) for count in counts]
-    return text_of(draft.lines + lines)
+    return text_of(draft.lines) + with_returns(rng, lines, returns)
+
+
+# ---- families: spelt otherwise
+
+
+def of_another_spelling(rng):
+    """A run with capitals, CR LF or both, in its table, its script or both."""
+    return respelt(rng, rng.choice((of_all_kinds, that_ends, that_meets, of_a_case, of_many_events))(rng))
 
 
 # ---- every input
@@ -907,9 +916,9 @@ def by_the_room_for_script_text(rng):
 
 # how many of a hundred inputs are of each family
 SHARES = {
-    of_all_kinds: 16,
-    that_ends: 12,
-    that_meets: 10,
+    of_all_kinds: 14,
+    that_ends: 11,
+    that_meets: 9,
     of_any_table: 8,
     as_judged: 5,
     of_a_case: 6,
@@ -925,6 +934,7 @@ SHARES = {
     by_the_room_for_nodes: 2,
     of_many_references: 1,
     by_the_room_for_script_text: 1,
+    of_another_spelling: 4,
 }
 FAMILIES = Families("run ", SHARES)
 

@@ -14,6 +14,7 @@ if __name__ == "__main__":  # as a command, too, packages are found from the rep
     sys.path[0] = str(pathlib.Path(__file__).resolve().parents[2])
 
 from tests.generators.families import Families, command
+from tests.generators.spelling import damage_by_returns, respelt, with_returns
 from tests.independent import frames
 from tests.independent.frames import (
     ADDRESS_ROOM, CALL, EXTERNAL_CHOICE, INTERNAL_CHOICE, KINDS, MOST_DEFINITIONS, PARALLEL, PATH_ROOM, PREFIX,
@@ -251,7 +252,7 @@ def damage_character(rng, text):
 
 
 def damage_by_foreign(rng, text):
-    """Characters that no line has: capitals, CR, blanks, NUL, an empty line and others."""
+    """Characters that no line has, as blanks and NUL; an empty line; capitals and CR, which not every text may have."""
     ends = [where for where, character in enumerate(text) if character == "\n"]
     if not ends:
         return rng.choice(("\n", "\r\n", " ", "\0", "A"))
@@ -279,8 +280,8 @@ def damage_by_foreign(rng, text):
 
 
 def misspelt(rng, line):
-    """Something near a line that is not one."""
-    return rng.choice((line[:-1], line + "0", line + " ", line + "\r", " " + line, "F" + line[1:], ""))
+    """Something near a line that is not one, whether LF follows or CR LF."""
+    return rng.choice((line[:-1], line + "0", line + " ", line + "\r\r", "\r" + line, " " + line, "G" + line[1:], ""))
 
 
 def damage_line(rng, lines):
@@ -410,6 +411,10 @@ def by_the_room_for_paths(rng):
     return text_of(draft.lines + good_script(rng))
 
 
+def good_and_respelt(rng):
+    return respelt(rng, good(rng))
+
+
 # ---- families: cut short and damaged
 
 
@@ -436,6 +441,13 @@ def damaged_character(rng):
 def damaged_by_foreign(rng):
     table, script = text_of(small_table(rng).lines), text_of(good_script(rng))
     return "".join(part_damaged(rng, table, script, damage_by_foreign))
+
+
+def damaged_by_returns(rng):
+    """CRs out of place, in lines spelt in one way or in several."""
+    table, script = text_of(small_table(rng).lines), text_of(good_script(rng))
+    texts = rng.choice(((table, script), (respelt(rng, table), respelt(rng, script))))
+    return "".join(part_damaged(rng, *texts, damage_by_returns))
 
 
 def damaged_line(rng):
@@ -593,18 +605,19 @@ def behind_the_end(rng):
 
 
 def ended_by_the_characters(rng):
-    """A line that begins with `1f` or nearly so, at the table's end or earlier, with its LF or not.
+    """A line that begins with `1f`, `1F` or nearly so, at the table's end or earlier, with its LF or not.
 
     Where the table ends decides between 6 and another number if what follows is longer than a table's room.
     """
     draft = small_table(rng)
     right = draft.lines[-1]
     ending = rng.choice((right, right, "1f", "1f0", "1f00", right[:-1], right + "0", right + "00", "1fx"))
-    near = rng.choice(("1F" + right[2:], " " + right, "0" + right, "\0" + right, "\r" + right, "1"))
+    ending = rng.choice((ending, ending, "1F" + ending[2:], "1F" + ending[2:], ending + "\r"))
+    near = rng.choice(("1\r" + right[1:], " " + right, "0" + right, "\0" + right, "\r" + right, "1", "F1", "1E0001"))
     where = rng.choice((len(draft.lines) - 1, rng.randrange(len(draft.lines))))
     before = draft.lines[:where]
     long_script = script_of_length(rng, TABLE_ROOM + rng.randint(0, 100))
-    script = rng.choice((good_script(rng), long_script))
+    script = rng.choice((good_script(rng), long_script, long_script))
     return rng.choice(
         (
             text_of(before) + ending,
@@ -620,7 +633,8 @@ def ended_by_the_characters(rng):
 
 
 def random_bytes(rng):
-    alphabet = rng.choice((bytes(range(256)), b"0123456789abcdef\n", b"01f2\n", b"1f\n", b"\n\r\0 "))
+    alphabets = (bytes(range(256)), b"0123456789abcdef\n", b"01f2\n", b"1f\n", b"1fF\r\n", b"\n\r\0 ")
+    alphabet = rng.choice(alphabets)
     return bytes(rng.choices(alphabet, k=rng.choice((0, 1, 2, 3, rng.randint(0, 200))))).decode("latin-1")
 
 
@@ -650,7 +664,7 @@ def random_frames(rng):
 # ---- families: the rooms for text
 
 
-PADDING_UNITS = ("0", "12", "1207\n", "200000\n", "\n")
+PADDING_UNITS = ("0", "12", "1207\n", "200000\n", "\n", "1207\r\n", "\r\n")
 
 
 def some_length(rng, room):
@@ -658,7 +672,7 @@ def some_length(rng, room):
 
 
 def start_of_a_table(rng):
-    """Lines of a table before its end, none of them a `1f` line."""
+    """Lines of a table before its end, none of them one that ends it."""
     return rng.choice(
         (
             small_table(rng).lines[: rng.randrange(4)],
@@ -678,11 +692,12 @@ class Padding(NamedTuple):
 
 
 def some_paddings(rng):
-    """Three ways to pad a table's text: without a `1f` line, before one, and as one."""
+    """Three ways to pad a table's text: without a `1f` or `1F` line, before one, and as one."""
+    last = rng.choice(("1f", end_line(0), end_line(TERM_ROOM), "1F0400\r"))
     return (
         Padding("", rng.choice(PADDING_UNITS), ""),
-        Padding("", rng.choice(PADDING_UNITS), rng.choice(("1f", end_line(0), end_line(TERM_ROOM))) + "\n"),
-        Padding("1f", "0", ""),
+        Padding("", rng.choice(PADDING_UNITS), last + "\n"),
+        Padding(rng.choice(("1f", "1F")), "0", ""),
     )
 
 
@@ -702,17 +717,18 @@ def by_the_room_for_table_text(rng):
 
 
 def by_the_room_for_script_text(rng):
-    """A script of good lines, or with a bad one, by its room; the table may be refused before it."""
+    """A script of good lines, or with a bad one, by its room, which CRs may help to fill; or a refused table."""
     draft = small_table(rng)
     table = draft.lines
     if rng.random() < 0.1:
         table = wrong_count_or_number(rng, draft)
-    script = script_of_length(rng, some_length(rng, SCRIPT_ROOM))
+    returns = rng.choice((0, 0, 1, 20))
+    script = script_of_length(rng, some_length(rng, SCRIPT_ROOM) - returns)
     fault = rng.random()
     if fault < 0.15:
         where = some_place(rng, len(script))
         script = put(script, where, rng.choice("g0") + script[where][1:])
-    text = text_of(table + script)
+    text = text_of(table) + with_returns(rng, script, returns)
     if 0.15 <= fault < 0.25:
         text = text[:-1] + rng.choice("0\r")
     return text
@@ -721,14 +737,21 @@ def by_the_room_for_script_text(rng):
 # ---- every input
 
 
-# how many of twenty-five inputs are of each family: the more there is to find, the more
+def any_and_respelt(rng):
+    """An input of any family with capitals, CR LF or both."""
+    return respelt(rng, rng.choice(list(SHARES))(rng))
+
+
+# how many of twenty-eight inputs are of each family: the more there is to find, the more
 SHARES = {
     good: 1,
+    good_and_respelt: 1,
     by_the_room_for_terms: 1,
     by_the_room_for_paths: 1,
     cut_short: 1,
     damaged_character: 1,
     damaged_by_foreign: 1,
+    damaged_by_returns: 1,
     damaged_line: 1,
     damaged_first_line: 1,
     damaged_number: 1,
@@ -743,6 +766,7 @@ SHARES = {
     random_frames: 1,
     by_the_room_for_table_text: 1,
     by_the_room_for_script_text: 1,
+    any_and_respelt: 1,
 }
 FAMILIES = Families("", SHARES)
 

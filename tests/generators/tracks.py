@@ -1,8 +1,8 @@
 """Inputs for the program reread, by families: a table with a saved track behind it.
 
 A track is the saved text of a run, or a graph of the reader's shape that no run makes; then nothing, one rule of
-shape, one number or some characters of it are spoilt. families.py says how an input follows from a seed and an
-index.
+shape, one number, some characters or the spelling of it are spoilt. families.py says how an input follows from a
+seed and an index.
 
     python3 tests/generators/tracks.py [--seed S] [--index I] [--count N]
 """
@@ -16,6 +16,7 @@ if __name__ == "__main__":  # as a command, too, packages are found from the rep
 
 from tests.generators import runs, tables
 from tests.generators.families import Families, command
+from tests.generators.spelling import damage_by_returns, respelt
 from tests.generators.tables import damage_by_foreign, damage_character, damage_line
 from tests.independent.frames import (
     EXTERNAL_CHOICE, PARALLEL, PREFIX, Place, Refusal, Table, cut_input, event_place, judge_table, left_hand_side,
@@ -259,6 +260,23 @@ def with_foreign_characters(rng):
     return drawn.text + damage_by_foreign(rng, graph_text(drawn.graph))
 
 
+def of_another_spelling(rng):
+    """A track with capitals, CR LF or both, which no saved track has."""
+    drawn = some_track(rng)
+    return drawn.text + respelt(rng, graph_text(drawn.graph))
+
+
+def with_returns_out_of_place(rng):
+    drawn = some_track(rng)
+    return drawn.text + damage_by_returns(rng, graph_text(drawn.graph))
+
+
+def of_a_respelt_table(rng):
+    """A track as it is behind a table with capitals, CR LF or both."""
+    drawn = some_track(rng)
+    return respelt(rng, drawn.text) + graph_text(drawn.graph)
+
+
 def cut_short(rng):
     drawn = some_track(rng)
     text = graph_text(drawn.graph)
@@ -347,12 +365,15 @@ def of_another_table(rng):
 
 # how many of a hundred inputs are of each family
 SHARES = {
-    as_it_is: 14,
-    with_a_rule_spoilt: 34,
+    as_it_is: 12,
+    with_a_rule_spoilt: 29,
     with_rules_spoilt: 6,
-    with_a_line_spoilt: 8,
+    with_a_line_spoilt: 7,
     with_a_character_spoilt: 8,
     with_foreign_characters: 5,
+    of_another_spelling: 4,
+    with_returns_out_of_place: 2,
+    of_a_respelt_table: 2,
     cut_short: 6,
     with_more_behind: 3,
     with_a_count_spoilt: 5,

@@ -1,7 +1,7 @@
-"""The independent program's frames: document 01's lines, tables with their places, and script lines.
+"""The independent program's frames: lines, tables with their places, and script lines.
 
-It is written from document 01 alone and shares nothing with the crates. `listing` gives what the program judge
-has to print for an input:
+It is written from document 01 and document 02's W1, and shares nothing with the crates. `listing` gives what the
+program judge has to print for an input:
 
     python3 tests/independent/frames.py < input
 
@@ -74,11 +74,17 @@ def split_lines(text):
     return re.findall(rb"[^\n]*\n|[^\n]+", text)
 
 
-def frame_of(line):
-    """The bytes that a line spells, or None where it is not a line."""
+def strict_frame_of(line):
+    """The bytes that a line of a saved track spells, or None where it is not one: small letters, and LF alone."""
     if not re.fullmatch(rb"(?:[0-9a-f][0-9a-f])+\n", line):
         return None
     return bytes.fromhex(line[:-1].decode("ascii"))
+
+
+def liberal_frame_of(line):
+    """The bytes that a line of a table or script spells, or None: small letters or capitals, and LF or CR LF."""
+    found = re.fullmatch(rb"((?:[0-9a-fA-F][0-9a-fA-F])+)(?:\n|\r\n)", line)
+    return bytes.fromhex(found[1].decode("ascii")) if found else None
 
 
 def number_of(some_bytes):
@@ -230,7 +236,7 @@ def judge_table(text):
     table = TableSoFar()
     lines = split_lines(text)
     for line_number, line in enumerate(lines, 1):
-        frame = frame_of(line)
+        frame = liberal_frame_of(line)
         fault = table_line_fault(table, frame)
         if fault is not None:
             return Refusal(fault, line_number)
@@ -257,7 +263,7 @@ def script_line_fault(frame):
 
 def judge_script_line(line, line_number):
     """The address, a byte a digit, that a script line names, or its Refusal."""
-    frame = frame_of(line)
+    frame = liberal_frame_of(line)
     fault = script_line_fault(frame)
     return frame[3:] if fault is None else Refusal(fault, line_number)
 
@@ -266,11 +272,11 @@ def judge_script_line(line, line_number):
 
 
 def cut_input(given):
-    """The table's text, through the first line that begins with `1f` or to the end, and the script's."""
+    """The table's text, through the first line that begins with `1f` or `1F` or to the end, and the script's."""
     end = 0
     for line in split_lines(given):
         end += len(line)
-        if line.startswith(b"1f"):
+        if line.startswith((b"1f", b"1F")):
             break
     return given[:end], given[end:]
 

@@ -1,6 +1,7 @@
 """The independent program's reader of saved tracks: document 01's lines, refusals and rules of shape.
 
-It is written from document 01, and shares nothing with the crates. `reread_listing` gives what the program reread
+It is written from document 01, and shares nothing with the crates. Its lines are strict: what document 02's W1 lets
+tables and scripts have, capitals and CR LF, a saved track may not have. `reread_listing` gives what the program reread
 prints for a table and a saved track behind it:
 
     python3 tests/independent/saved.py < input
@@ -14,8 +15,8 @@ if __name__ == "__main__":  # as a command, too, packages are found from the rep
     sys.path[0] = str(pathlib.Path(__file__).resolve().parents[2])
 
 from tests.independent.frames import (
-    EXTERNAL_CHOICE, PARALLEL, PREFIX, Place, Refusal, cut_input, event_place, frame_of, judge_table, left_hand_side,
-    number_of, split_lines,
+    EXTERNAL_CHOICE, PARALLEL, PREFIX, Place, Refusal, cut_input, event_place, judge_table, left_hand_side, number_of,
+    split_lines, strict_frame_of,
 )
 from tests.independent.rules import ARC_ROOM, MEETING_ROOM, NODE_ROOM, node_bytes, refusal_line, text_of
 
@@ -73,7 +74,7 @@ def take(graph, frame):
 def read_lines(table, text):
     """The graph that a text says, or the Refusal of its first failing line."""
     lines = split_lines(text)
-    opening = frame_of(lines[0]) if lines else b""
+    opening = strict_frame_of(lines[0]) if lines else b""
     fault = opening_fault(opening)
     if fault is not None:
         return Refusal(fault, 1)
@@ -81,7 +82,7 @@ def read_lines(table, text):
     due = [NODE] * nodes + [ARC] * arcs + [MEETING] * meetings + [LAST]
     graph = Graph([], [], [])
     for index, line in enumerate(lines[1:]):
-        frame = frame_of(line)
+        frame = strict_frame_of(line)
         fault = line_fault(frame, due[index] if index < len(due) else None, nodes, table.definitions)
         if fault is not None:
             return Refusal(fault, index + 2)

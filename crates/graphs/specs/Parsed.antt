@@ -5,7 +5,7 @@ use mathlib.Core.List.{List, [], _∷_, _++_}
 use mathlib.Core.Option.{Option, none, some}
 use lib.ListN.{length, getD, drop, replicate}
 use lib.Dec.{leb, ltb, eqb}
-use Rattle.lines.specs.Line.{choose, number-at, lines}
+use Rattle.lines.specs.Line.{choose, number-at, lines, frame}
 use Rattle.lines.specs.Judging.{Judged, Judging, judged-from}
 use Rattle.frames.specs.TableFrame.{path-room}
 use Rattle.places.specs.Place.{Place}
@@ -155,7 +155,7 @@ module _ (d : ℕ) where
 
   -- how the lines of a saved text are judged, for a table of d definitions
   abbrev pub track-lines : Judging Stage Graph
-  track-lines = record { whole = whole-at; number = number-met; behind = stage-behind }
+  track-lines = record { reads = frame; whole = whole-at; number = number-met; behind = stage-behind }
 
   -- what a saved text says
   abbrev pub parsed : List ℕ → Judged Graph

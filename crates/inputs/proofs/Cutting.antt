@@ -1,9 +1,9 @@
 -- Where an input's table ends: within the input, and for the first n bytes of it at the same place or at n.
 -- Lines are counted byte by byte: a byte that is no LF makes the first line one longer, an LF ends a line, and
--- the text's first two bytes tell whether the first line starts `1f`. Assumes nothing.
+-- the text's first two bytes tell whether the first line starts `1f` or `1F`. Assumes nothing.
 use Prim.Native.Nat.{ℕ, zero, suc, _+_, _-_, _≤_, _<_, min}
 use mathlib.Core.Path.{_≡_, refl, sym, ap, _∙_}
-use mathlib.Core.Bool.{Bool, true, false}
+use mathlib.Core.Bool.{Bool, true, false, _||_}
 use mathlib.Core.List.{List, [], _∷_}
 use native.Mathlib.Omega.{arith}
 use native.Mathlib.Numerals.{add-one, one-add}
@@ -12,7 +12,7 @@ use lib.Dec.{eqb}
 use lib.Seq.{take-nil, take-length, take-all, drop-drop, drop-cons}
 use borrow.Author.Tests.{eqb-true, eq-eqb, ne-eqb}
 use Rattle.lines.specs.Line.{choose, LF, Raw, full, open-ended, before, lines, characters}
-use Rattle.inputs.specs.Cut.{one, f, starts-1f, extent, table-length}
+use Rattle.inputs.specs.Cut.{one, f, capital-f, starts-1f, extent, table-length}
 use Rattle.inputs.specs.code.Lengths.{line-length}
 
 -- the characters of the first of some lines
@@ -42,7 +42,7 @@ starts-first (c ∷ d ∷ t) = go (eqb c LF) (eqb d LF) refl refl
     neither false = refl
 
     go : (p q : Bool) → eqb c LF ≡ p → eqb d LF ≡ q
-        → starts-1f (first (lines (c ∷ d ∷ t))) ≡ choose (eqb c one) (eqb d f) false
+        → starts-1f (first (lines (c ∷ d ∷ t))) ≡ choose (eqb c one) (eqb d f || eqb d capital-f) false
     go true q e₁ e₂ = simp e₁ (rw (eqb-true c LF e₁))
     go false true e₁ e₂ = simp (e₁, e₂) (rw (eqb-true d LF e₂) (neither (eqb c one)))
     go false false e₁ e₂ = simp (e₁, e₂, first-before)
@@ -206,8 +206,19 @@ starts-other (c ∷ []) e = refl
 starts-other (c ∷ d ∷ t) e = simp (ne-eqb c one e)
 
 -- and behind a `1` the second byte tells
-pub starts-one : (t : List ℕ) → 2 ≤ length t → getD t 0 0 ≡ one → eqb (getD t 1 0) f ≡ starts-1f t
-unfolding starts-1f
-starts-one [] h e = absurd (omega arith)
-starts-one (c ∷ []) h e = absurd (omega arith)
-starts-one (c ∷ d ∷ t) h e = simp (eq-eqb c one e)
+module _ (t : List ℕ) (h : 2 ≤ length t) (e : getD t 0 0 ≡ one) where
+  starts-one : eqb (getD t 1 0) f || eqb (getD t 1 0) capital-f ≡ starts-1f t
+  unfolding starts-1f
+  starts-one = go t h e
+    where
+      go : (t : List ℕ) → 2 ≤ length t → getD t 0 0 ≡ one
+          → eqb (getD t 1 0) f || eqb (getD t 1 0) capital-f ≡ starts-1f t
+      go [] h e = absurd (omega arith)
+      go (c ∷ []) h e = absurd (omega arith)
+      go (c ∷ d ∷ t) h e = simp (eq-eqb c one e)
+
+  pub starts-small : getD t 1 0 ≡ f → true ≡ starts-1f t
+  starts-small q = rw (eq-eqb _ f q) at starts-one
+
+  pub starts-capital : (getD t 1 0 ≡ f → ⊥) → eqb (getD t 1 0) capital-f ≡ starts-1f t
+  starts-capital q = rw (ne-eqb _ f q) at starts-one

@@ -14,7 +14,7 @@ pub const STANDARD_INPUT: i32 = 0;
 
 pub const STANDARD_OUTPUT: i32 = 1;
 
-// The table's text runs through the first line that starts `1f`, or to the end.
+// The table's text runs through the first line that starts `1f` or `1F`, or to the end.
 pub fn table_end(text: &[u8]) -> usize
     ensures { λ r. ⌜ r ≡ table-length (lines (now (text .entry))) ⌝ }
 {
@@ -51,12 +51,18 @@ fn line_length(text: &[u8]) -> usize
     i
 }
 
-// Whether a text starts `1f`.
+// Whether a text starts `1f` or `1F`.
 fn starts_1f(text: &[u8]) -> bool
     ensures { λ r. ⌜ r ≡ starts-1f (now (text .entry)) ⌝ }
 {
     if text.len() < 2 {
         return false;
     }
-    text[0] == b'1' && text[1] == b'f'
+    if text[0] != b'1' {
+        return false;
+    }
+    if text[1] == b'f' {
+        return true;
+    }
+    text[1] == b'F'
 }

@@ -48,6 +48,15 @@ pub data Digits : List ℕ → Type 0 where
   no-more : Digits []
   one-more : {c : ℕ} {cs : List ℕ} → digit c < 16 → Digits cs → Digits (c ∷ cs)
 
+-- none of the characters is an LF: they stand in one line
+pub data Inline : List ℕ → Type 0 where
+  none-inline : Inline []
+  inline : {c : ℕ} {cs : List ℕ} → eqb c LF ≡ false → Inline cs → Inline (c ∷ cs)
+
+pub digits-inline : {cs : List ℕ} → Digits cs → Inline cs
+digits-inline no-more = none-inline
+digits-inline (one-more h t) = inline (digit-no-LF _ h) (digits-inline t)
+
 -- a text is its run of digits and what ends the run
 pub record Split (s : List ℕ) : Type 0 where
   pub digits : List ℕ
@@ -93,17 +102,17 @@ split (d ∷ ds) = go (leb 16 (digit d)) refl (split ds)
       ends = r .ends;
     }
 
--- a run with an LF behind it is a line
-pub lines-full : (ds rest : List ℕ) → Digits ds → lines (ds ++ LF ∷ rest) ≡ full ds ∷ lines rest
+-- characters with no LF among them and one behind them are a line
+pub lines-full : (ds rest : List ℕ) → Inline ds → lines (ds ++ LF ∷ rest) ≡ full ds ∷ lines rest
 unfolding lines before
-lines-full [] rest no-more = refl
-lines-full (c ∷ cs) rest (one-more h t) = simp (digit-no-LF c h, lines-full cs rest t)
+lines-full [] rest none-inline = refl
+lines-full (c ∷ cs) rest (inline h t) = simp (h, lines-full cs rest t)
 
--- a run that ends the text is a line without its LF
-pub lines-open : (c : ℕ) (ds : List ℕ) → Digits (c ∷ ds) → lines (c ∷ ds) ≡ open-ended (c ∷ ds) ∷ []
+-- where they end the text they are a line without its LF
+pub lines-open : (c : ℕ) (ds : List ℕ) → Inline (c ∷ ds) → lines (c ∷ ds) ≡ open-ended (c ∷ ds) ∷ []
 unfolding lines before
-lines-open c [] (one-more h t) = simp (digit-no-LF c h)
-lines-open c (d ∷ ds) (one-more h t) = simp (digit-no-LF c h, lines-open d ds t)
+lines-open c [] (inline h t) = simp h
+lines-open c (d ∷ ds) (inline h t) = simp (h, lines-open d ds t)
 
 -- the first of some lines has these characters
 abbrev pub Starts : List Raw → List ℕ → Type 0
@@ -124,14 +133,14 @@ starts-at x [] = ([], (open-ended (x ∷ []), [], refl, refl))
 starts-at x (full cs ∷ ls) = (cs, (full (x ∷ cs), ls, refl, refl))
 starts-at x (open-ended cs ∷ ls) = (cs, (open-ended (x ∷ cs), ls, refl, refl))
 
--- a run and a character that is no LF stand in one line
-pub lines-start : (ds : List ℕ) (x : ℕ) (rest : List ℕ) → Digits ds → eqb x LF ≡ false
+-- and where one more that is no LF follows, it stands in their line
+pub lines-start : (ds : List ℕ) (x : ℕ) (rest : List ℕ) → Inline ds → eqb x LF ≡ false
     → (ys : List ℕ) × Starts (lines (ds ++ x ∷ rest)) (ds ++ x ∷ ys)
 unfolding lines
-lines-start [] x rest no-more e = simp e (starts-at x (lines rest))
-lines-start (c ∷ cs) x rest (one-more h t) e =
+lines-start [] x rest none-inline e = simp e (starts-at x (lines rest))
+lines-start (c ∷ cs) x rest (inline h t) e =
     let r = lines-start cs x rest t e in
-    (r .0, simp (digit-no-LF c h) (starts-before c (lines (cs ++ x ∷ rest)) (cs ++ x ∷ r .0) (r .1)))
+    (r .0, simp h (starts-before c (lines (cs ++ x ∷ rest)) (cs ++ x ∷ r .0) (r .1)))
 
 -- a pair is a byte only where both are digits
 pub pair-some : (h l : ℕ) (o : Option (List ℕ)) (bs : List ℕ) → pair h l o ≡ some bs

@@ -14,52 +14,57 @@ use lib.Dec.{eqb}
 use lib.Seq.{drop-cons, drop-append-seam, drop-append-add, take-append-seam, drop-drop, drop-length, take-nil}
 use borrow.Author.Tests.{le-leb, lt-leb, eqb-true, ne-eqb}
 use Rattle.lines.specs.Line.{choose, digit, Raw, full, open-ended, before, lines, bytes, frame}
-use Rattle.lines.specs.Line.{characters, LF, seen, answer}
+use Rattle.lines.specs.Line.{characters, LF, seen, Form, answer-of, answer}
 use Rattle.lines.specs.code.Characters.{run, part}
 use Rattle.lines.specs.declared.Line.{Line}
 use Rattle.lines.specs.declared.Line.the-variants.{Found, NoLine, End}
 use Rattle.lines.proofs.Line.{enum}
-use Rattle.lines.proofs.Digits.{Digits, Split, split, lines-full, lines-open, lines-start}
+use Rattle.lines.proofs.Digits.{Digits, digits-inline, Split, split, lines-full, lines-open, lines-start}
 use Rattle.lines.proofs.Digits.{frame-broken, bytes-even, bytes-odd, pair-some}
 
 -- at the end of the text there is no line left
 pub answer-end : (s : List ℕ) (at : ℕ) → length s ≤ at → answer at (lines (drop at s)) ≡ End
-unfolding answer lines
+unfolding answer-of lines
 answer-end s at h = rw (drop-of-length-le s h)
 
 -- by what the run of digits is and what stands behind it
 answer-full : (at : ℕ) (ds rest : List ℕ) (bs : List ℕ) → Digits ds → 0 < length ds → bytes ds ≡ some bs
     → answer at (lines (ds ++ LF ∷ rest)) ≡ Found (at + length ds) (at + length ds + 1)
-unfolding answer seen characters frame
+unfolding answer-of seen characters frame
 answer-full at [] rest bs t h e = absurd (omega arith)
-answer-full at (c ∷ cs) rest bs t h e = rw (lines-full (c ∷ cs) rest t, e)
+answer-full at (c ∷ cs) rest bs t h e = rw (lines-full (c ∷ cs) rest (digits-inline t), e)
 
 answer-bad : (at : ℕ) (ds rest : List ℕ) → Digits ds → frame (full ds) ≡ none
     → answer at (lines (ds ++ LF ∷ rest)) ≡ NoLine
-unfolding answer seen characters
-answer-bad at ds rest t e = rw (lines-full ds rest t, e)
+unfolding answer-of seen characters
+answer-bad at ds rest t e = rw (lines-full ds rest (digits-inline t), e)
 
 answer-open : (at : ℕ) (ds : List ℕ) → Digits ds → 0 < length ds → answer at (lines ds) ≡ NoLine
-unfolding answer seen characters frame
+unfolding answer-of seen characters frame
 answer-open at [] t h = absurd (omega arith)
-answer-open at (c ∷ cs) t h = rw (lines-open c cs t)
+answer-open at (c ∷ cs) t h = rw (lines-open c cs (digits-inline t))
 
 answer-other : (at : ℕ) (ds : List ℕ) (x : ℕ) (rest : List ℕ) → Digits ds → eqb x LF ≡ false → 16 ≤ digit x
     → answer at (lines (ds ++ x ∷ rest)) ≡ NoLine
-unfolding answer seen
+unfolding answer-of seen
 answer-other at ds x rest t e h =
-    let r = lines-start ds x rest t e in
+    let r = lines-start ds x rest (digits-inline t) e in
     rw (r .1 .2, frame-broken (r .1 .0) ds x (r .0) (r .1 .3) h)
 
-frame-empty : (cs : List ℕ) → length cs ≡ 0 → frame (full cs) ≡ none
+pub frame-empty : (cs : List ℕ) → length cs ≡ 0 → frame (full cs) ≡ none
 unfolding frame
 frame-empty [] h = refl
 frame-empty (c ∷ cs) h = absurd (omega arith)
 
-frame-none : (cs : List ℕ) → bytes cs ≡ none → frame (full cs) ≡ none
+pub frame-none : (cs : List ℕ) → bytes cs ≡ none → frame (full cs) ≡ none
 unfolding frame
 frame-none [] h = refl
 frame-none (c ∷ cs) h = h
+
+pub frame-some : (cs bs : List ℕ) → 0 < length cs → bytes cs ≡ some bs → frame (full cs) ≡ some bs
+unfolding frame
+frame-some [] bs h e = absurd (omega arith)
+frame-some (c ∷ cs) bs h e = e
 
 -- the text from `at` on: its run of digits, and what stands at the run's end
 module _ (s : List ℕ) (at e : ℕ) (inside : at < length s) (end : e ≡ at + run (drop at s)) where
@@ -154,42 +159,42 @@ pub record IsLine (s : List ℕ) (at e n : ℕ) : Type 0 where
   pub behind : n ≡ e + 1
   pub within : n ≤ length s
 
--- a text that has a line from `at` on: the line's characters are its part, and what
--- follows stands behind the LF
-module _ (s cs rest : List ℕ) (at : ℕ) (e : drop at s ≡ cs ++ LF ∷ rest) where
-  long : length s - at ≡ length cs + suc (length rest)
-  long = sym (length-drop at s) ∙ ap length e ∙ length-append cs (LF ∷ rest)
+-- characters in a text from `at` on, with another behind them: they are its part, and what is left stands behind that one
+module _ (s cs rest : List ℕ) (x at : ℕ) (e : drop at s ≡ cs ++ x ∷ rest) where
+  pub long : length s - at ≡ length cs + suc (length rest)
+  long = sym (length-drop at s) ∙ ap length e ∙ length-append cs (x ∷ rest)
 
-  part-is : part s at (at + length cs) ≡ cs
+  pub part-is : part s at (at + length cs) ≡ cs
   unfolding part
   part-is =
       let n : length s - at ≡ length cs + suc (length rest) = long in
       let m : at + length cs - at ≡ length cs = omega arith in
       let from = le-leb at (at + length cs) (omega arith) in
       let to = le-leb (at + length cs) (length s) (omega arith) in
-      simp (from, to, m, e) (take-append-seam cs (LF ∷ rest))
+      simp (from, to, m, e) (take-append-seam cs (x ∷ rest))
 
-  rest-behind : drop (at + length cs + 1) s ≡ rest
+  pub rest-behind : drop (at + length cs + 1) s ≡ rest
   rest-behind =
       let m : at + length cs + 1 ≡ at + (length cs + 1) = omega arith in
-      rw (m, ← drop-drop (length cs + 1) at s, e) (drop-append-add cs (LF ∷ rest) 1)
+      rw (m, ← drop-drop (length cs + 1) at s, e) (drop-append-add cs (x ∷ rest) 1)
 
 found-line : (s : List ℕ) (at e n : ℕ) (l : Raw) (ls : List Raw) → lines (drop at s) ≡ l ∷ ls
-    → seen at (characters l) (frame l) ≡ Found e n → IsLine s at e n
-unfolding seen characters frame
+    → answer at (l ∷ ls) ≡ Found e n → IsLine s at e n
+unfolding answer-of seen characters frame
 found-line s at e n (open-ended cs) ls q h = let z : _≡_ {A = ℕ} 0 1 = cc in absurd (omega arith)
 found-line s at e n (full []) ls q h = let z : _≡_ {A = ℕ} 0 1 = cc in absurd (omega arith)
 found-line s at e n (full (c ∷ cs)) ls q h = go (bytes (c ∷ cs)) refl h
   where
-    go : (o : Option (List ℕ)) → bytes (c ∷ cs) ≡ o → seen at (c ∷ cs) o ≡ Found e n → IsLine s at e n
+    go : (o : Option (List ℕ)) → bytes (c ∷ cs) ≡ o
+        → seen (at + length (c ∷ cs)) (at + length (c ∷ cs) + 1) o ≡ Found e n → IsLine s at e n
     go none b h = let z : _≡_ {A = ℕ} 0 1 = cc in absurd (omega arith)
     go (some bs) b h =
         let f = lines-first (drop at s) (c ∷ cs) ls q in
         let es : at + length (c ∷ cs) ≡ e = cc in
         let ns : at + length (c ∷ cs) + 1 ≡ n = cc in
-        let k : length s - at ≡ length (c ∷ cs) + suc (length (f .0)) = long s (c ∷ cs) (f .0) at (f .1) in
-        let p : part s at e ≡ c ∷ cs = ap (part s at) (sym es) ∙ part-is s (c ∷ cs) (f .0) at (f .1) in
-        let r : drop n s ≡ f .0 = ap (λ (m : ℕ). drop m s) (sym ns) ∙ rest-behind s (c ∷ cs) (f .0) at (f .1) in
+        let k : length s - at ≡ length (c ∷ cs) + suc (length (f .0)) = long s (c ∷ cs) (f .0) LF at (f .1) in
+        let p : part s at e ≡ c ∷ cs = ap (part s at) (sym es) ∙ part-is s (c ∷ cs) (f .0) LF at (f .1) in
+        let r : drop n s ≡ f .0 = ap (λ (m : ℕ). drop m s) (sym ns) ∙ rest-behind s (c ∷ cs) (f .0) LF at (f .1) in
         record {
           held = bs;
           first = rw (p, r) (q ∙ ap (λ (t : List Raw). full (c ∷ cs) ∷ t) (f .2));
@@ -200,46 +205,47 @@ found-line s at e n (full (c ∷ cs)) ls q h = go (bytes (c ∷ cs)) refl h
           within = omega arith;
         }
 
--- no line, or none left
-pub record NotALine (s : List ℕ) (at : ℕ) : Type 0 where
+pub is-line : (s : List ℕ) (at e n : ℕ) → answer at (lines (drop at s)) ≡ Found e n → IsLine s at e n
+unfolding answer-of
+is-line s at e n h = go (lines (drop at s)) refl h
+  where
+    go : (ls : List Raw) → lines (drop at s) ≡ ls → answer at ls ≡ Found e n → IsLine s at e n
+    go [] q h = let z : _≡_ {A = ℕ} 0 1 = cc in absurd (omega arith)
+    go (l ∷ ls) q h = found-line s at e n l ls q h
+
+-- no line, or none left, of lines of any form
+pub record NotALine (f : Form) (s : List ℕ) (at : ℕ) : Type 0 where
   pub line : Raw
   pub others : List Raw
   pub first : lines (drop at s) ≡ line ∷ others
-  pub broken : frame line ≡ none
+  pub broken : f .reads line ≡ none
 
-module _ (s : List ℕ) (at : ℕ) where
-  pub is-line : (e n : ℕ) → answer at (lines (drop at s)) ≡ Found e n → IsLine s at e n
-  unfolding answer
-  is-line e n h = go (lines (drop at s)) refl h
-    where
-      go : (ls : List Raw) → lines (drop at s) ≡ ls → answer at ls ≡ Found e n → IsLine s at e n
-      go [] q h = let z : _≡_ {A = ℕ} 0 1 = cc in absurd (omega arith)
-      go (l ∷ ls) q h = found-line s at e n l ls q h
-
-  pub not-a-line : answer at (lines (drop at s)) ≡ NoLine → NotALine s at
-  unfolding answer seen
+module _ (f : Form) (s : List ℕ) (at : ℕ) where
+  pub not-a-line : answer-of f at (lines (drop at s)) ≡ NoLine → NotALine f s at
+  unfolding answer-of seen
   not-a-line h = go (lines (drop at s)) refl h
     where
-      none-of : (l : Raw) (ls : List Raw) (o : Option (List ℕ)) → lines (drop at s) ≡ l ∷ ls → frame l ≡ o
-          → seen at (characters l) o ≡ NoLine → NotALine s at
-      none-of l ls none q f h = record { line = l; others = ls; first = q; broken = f }
-      none-of l ls (some bs) q f h = let z : _≡_ {A = ℕ} 0 1 = cc in absurd (omega arith)
+      none-of : (l : Raw) (ls : List Raw) (i j : ℕ) (o : Option (List ℕ)) → lines (drop at s) ≡ l ∷ ls
+          → f .reads l ≡ o
+          → seen i j o ≡ NoLine → NotALine f s at
+      none-of l ls i j none q b h = record { line = l; others = ls; first = q; broken = b }
+      none-of l ls i j (some bs) q b h = let z : _≡_ {A = ℕ} 0 1 = cc in absurd (omega arith)
 
-      go : (ls : List Raw) → lines (drop at s) ≡ ls → answer at ls ≡ NoLine → NotALine s at
+      go : (ls : List Raw) → lines (drop at s) ≡ ls → answer-of f at ls ≡ NoLine → NotALine f s at
       go [] q h = let z : _≡_ {A = ℕ} 0 1 = cc in absurd (omega arith)
-      go (l ∷ ls) q h = none-of l ls (frame l) q refl h
+      go (l ∷ ls) q h = none-of l ls _ _ (f .reads l) q refl h
 
-  pub none-left : answer at (lines (drop at s)) ≡ End → lines (drop at s) ≡ []
-  unfolding answer seen
+  pub none-left : answer-of f at (lines (drop at s)) ≡ End → lines (drop at s) ≡ []
+  unfolding answer-of seen
   none-left h = go (lines (drop at s)) refl h
     where
-      not-end : (cs : List ℕ) (o : Option (List ℕ)) → seen at cs o ≡ End → ⊥
-      not-end cs none h = let z : _≡_ {A = ℕ} 0 1 = cc in omega arith
-      not-end cs (some bs) h = let z : _≡_ {A = ℕ} 0 1 = cc in omega arith
+      not-end : (i j : ℕ) (o : Option (List ℕ)) → seen i j o ≡ End → ⊥
+      not-end i j none h = let z : _≡_ {A = ℕ} 0 1 = cc in omega arith
+      not-end i j (some bs) h = let z : _≡_ {A = ℕ} 0 1 = cc in omega arith
 
-      go : (ls : List Raw) → lines (drop at s) ≡ ls → answer at ls ≡ End → ls ≡ []
+      go : (ls : List Raw) → lines (drop at s) ≡ ls → answer-of f at ls ≡ End → ls ≡ []
       go [] q h = refl
-      go (l ∷ ls) q h = absurd (not-end (characters l) (frame l) h)
+      go (l ∷ ls) q h = absurd (not-end _ _ (f .reads l) h)
 
 -- a line by another variant's tag is not found
 pub not-found : (l : Line) → (tagOf (declared enum) l ≡ 1) ⊎ (tagOf (declared enum) l ≡ 2) → (e n : ℕ)

@@ -12,7 +12,7 @@ use borrow.Author.Tests.{le-leb, lt-leb, leb-true, ltb-true, ltb-false, lt-ltb, 
 use Rattle.lines.specs.Line.{choose, digit, character, pair, bytes, hex, LF}
 use Rattle.lines.specs.Line.{Raw, full, open-ended, before, lines, frame, text}
 use Rattle.lines.specs.Line.{Bytes, no-bytes, byte-first, Frames, no-frames, frame-first}
-use Rattle.lines.proofs.Digits.{both, Digits, no-more, one-more, pair-some, lines-full}
+use Rattle.lines.proofs.Digits.{both, Digits, no-more, one-more, digits-inline, pair-some, lines-full}
 use Rattle.lines.proofs.Laws.{lines-first, bytes-length}
 
 -- a digit's character counts as the digit
@@ -98,7 +98,7 @@ read-bytes (h ∷ l ∷ cs) bs e =
 pub written-first : (bs : List ℕ) (fs : List (List ℕ)) → Bytes bs
     → lines (text (bs ∷ fs)) ≡ full (hex bs) ∷ lines (text fs)
 unfolding text
-written-first bs fs h = lines-full (hex bs) (text fs) (hex-digits bs h)
+written-first bs fs h = lines-full (hex bs) (text fs) (digits-inline (hex-digits bs h))
 
 -- and has that frame
 pub written-frame : (b : ℕ) (bs : List ℕ) → Bytes (b ∷ bs) → frame (full (hex (b ∷ bs))) ≡ some (b ∷ bs)
@@ -129,7 +129,7 @@ no-lines (c ∷ cs) e = absurd (go (eqb c LF) e)
     go false e = before-some c (lines cs) e
 
 -- a line with a frame is that frame, written
-line-written : (l : Raw) (bs : List ℕ) → frame l ≡ some bs → l ≡ full (hex bs)
+pub line-written : (l : Raw) (bs : List ℕ) → frame l ≡ some bs → l ≡ full (hex bs)
 unfolding frame
 line-written (open-ended cs) bs e = let z : _≡_ {A = ℕ} 0 1 = cc in absurd (omega arith)
 line-written (full []) bs e = let z : _≡_ {A = ℕ} 0 1 = cc in absurd (omega arith)

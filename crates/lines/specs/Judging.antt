@@ -4,16 +4,18 @@ use Prim.Native.Nat.{ℕ, _+_}
 use mathlib.Core.List.{List, [], _∷_}
 use mathlib.Core.Option.{Option, none, some}
 use lib.Dec.{eqb}
-use Rattle.lines.specs.Line.{choose, Raw, frame}
+use Rattle.lines.specs.Line.{choose, Raw}
 
 -- a text: what it says, or a refusal's number and line
 pub data Judged (A : Type 0) : Type 0 where
   accepted : A → Judged A
   refused : ℕ → ℕ → Judged A
 
--- how the lines of one kind of text are judged, by how far they have come: what the text says once no line is due any
--- more; the number that a line's bytes meet, 0 where none; and how far the lines have come behind that line
+-- how the lines of one kind of text are judged: the bytes of a line, none where it is no line of that text; and, by how
+-- far the lines have come, what the text says once no line is due any more, the number that a line's bytes meet, 0 where
+-- none, and how far the lines have come behind that line
 pub record Judging (S A : Type 0) : Type 0 where
+  pub reads : Raw → Option (List ℕ)
   pub whole : S → Option A
   pub number : S → List ℕ → ℕ
   pub behind : S → List ℕ → S
@@ -33,4 +35,4 @@ module _ {S A : Type 0} (j : Judging S A) where
   -- the lines from line k on
   unfoldable pub judged-from : S → ℕ → List Raw → Judged A
   judged-from s k [] = at-end k (j .whole s)
-  judged-from s k (l ∷ ls) = at-line k (j .number s) (λ bs. judged-from (j .behind s bs) (k + 1) ls) (frame l)
+  judged-from s k (l ∷ ls) = at-line k (j .number s) (λ bs. judged-from (j .behind s bs) (k + 1) ls) (j .reads l)

@@ -1,5 +1,6 @@
 -- Document 01, 'Lines': text is lines of hexadecimal, one frame a line: digits 0-9 a-f, an even count, at
--- least two, LF after every line; numbers of several bytes are high byte first.
+-- least two, LF after every line; numbers of several bytes are high byte first. All that is written has such lines,
+-- and a saved track has no others; what more a table or a script may have is told in `crates/desk_lines`.
 use Prim.Native.Nat.{ℕ, _+_, _-_, _*_, _/_, _%_, _<_}
 use mathlib.Core.Bool.{Bool, true, false, _&&_}
 use mathlib.Core.List.{List, [], _∷_, _++_}
@@ -101,15 +102,27 @@ pub data Frames : List (List ℕ) → Type 0 where
   no-frames : Frames []
   frame-first : {b : ℕ} {bs : List ℕ} {fs : List (List ℕ)} → Bytes (b ∷ bs) → Frames fs → Frames ((b ∷ bs) ∷ fs)
 
--- the answer for the first of a text's lines, where the text stands from `at` on: where its characters end
--- and where the next line begins, or that it is none (refusal 1), or that there is no line left
-unfoldable pub seen : ℕ → List ℕ → Option (List ℕ) → Line
-seen at cs none = NoLine
-seen at cs (some bs) = Found (at + length cs) (at + length cs + 1)
+-- the answer for a line, by its bytes: where its characters end and where the next line begins, or that it is none
+-- (refusal 1)
+unfoldable pub seen : ℕ → ℕ → Option (List ℕ) → Line
+seen end next none = NoLine
+seen end next (some bs) = Found end next
 
-unfoldable pub answer : ℕ → List Raw → Line
-answer at [] = End
-answer at (l ∷ ls) = seen at (characters l) (frame l)
+-- the form of a text's lines: which of a line's characters stand in front of its end, and the bytes of a line
+pub record Form : Type 0 where
+  pub own : Raw → List ℕ
+  pub reads : Raw → Option (List ℕ)
+
+abbrev pub strict-form : Form
+strict-form = record { own = characters; reads = frame }
+
+-- the answer for the first of a text's lines, where the text stands from `at` on, or that there is no line left
+unfoldable pub answer-of : Form → ℕ → List Raw → Line
+answer-of f at [] = End
+answer-of f at (l ∷ ls) = seen (at + length (f .own l)) (at + length (characters l) + 1) (f .reads l)
+
+abbrev pub answer : ℕ → List Raw → Line
+answer = answer-of strict-form
 
 -- the paper's number of each answer that is no line, where a line is wanted: 1 for no line,
 -- 2 for a text that ends early

@@ -1,5 +1,5 @@
-// Lines of hexadecimal: where the next line of a text ends, and the bytes that its digits stand for.
-// It relies on nothing; every reader of a text above stands on it.
+// Lines of hexadecimal, strictly spelled, as a saved track has them: where the next line of a text ends, and its characters. It
+// relies on nothing; every reader of a text above stands on it.
 ghost use mathlib.Core.Path.{_≡_};
 ghost use Prim.Native.Nat.{_+_, _≤_};
 ghost use lib.ListN.{length, drop};

@@ -1,6 +1,7 @@
--- Document 01's cases A to H, K and M, and those of document 02's W2, from input to output, by computation: one table
--- for each, and one statement over them and over further inputs that are refused. A text is written as document 01 writes its case A, with `/` for
--- LF. Case A is document 01's own text; every other output comes from the independent program. Assumes nothing.
+-- Document 01's cases A to H, K and M, and those of document 02's W1 and W2, from input to output, by computation: one table for
+-- each, and one statement over them and over further inputs that are refused. A text is written as document 01 writes its case
+-- A, with `/` for LF, and with `;` for CR. Case A is document 01's own text; every other output comes from the independent
+-- program. Assumes nothing.
 use Prim.Native.String.{String, _++_}
 use mathlib.Core.Path.{_≡_, refl}
 use mathlib.Core.List.{List, [], _∷_, map, _++_ as _++ᴸ_}
@@ -8,6 +9,7 @@ use Rattle.lines.specs.Line.{digit, before, lines, pair, bytes, frame, characte
 use Rattle.lines.specs.Line.{hex, text, two}
 use Rattle.lines.specs.Judging.{at-end, at-line, judged-from}
 use Rattle.lines.proofs.Typed.{typed}
+use Rattle.desk_lines.specs.DeskLine.{small, without-CR, strict, desk-frame}
 use Rattle.scripts.specs.Script.{well-formed, all-digits, in-range, asked}
 use Rattle.kinds.specs.Kind.{known, payload-bytes, subterms}
 use Rattle.sets.specs.EventSet.{member}
@@ -110,6 +112,40 @@ cases =
     ∷ case table-A "4100/3001000000000000/3f/"
     ∷ []
 
+-- A's first two steps and their status, what a refused line tells, and the track that they leave
+stopped-A : String → String
+stopped-A refusal =
+    "4000/400200/4100/" ++ refusal
+    ++ "3001000600050001/310000000100/3100010000/31000200020101/310003000101/31000400020201/310005000102/"
+    ++ "3200000001/3200010002/3200010004/3200020003/3200040005/3300020004/3f/"
+
+-- document 02, W1: capitals and CR LF, and what is no line all the same
+pub desk-cases : List Case
+desk-cases =
+    -- A from the other office, and with both kinds of lines
+    case
+    ("10010101;/1100;/12060000000000000001;/120200;/1207;/120200;/1208;/1F0005;/"
+    ++ "200000;/20000103;/20000101;/20000102;/") listed-A
+    ∷ case
+    ("10010101;/1100/12060000000000000001/120200;/1207/120200;/1208/1F0005/"
+    ++ "200000;/20000103/20000101;/20000102/") listed-A
+    -- e10→STOP of 11 events
+    ∷ case "1001010B/1100;/12020A/1208/1F0002;/200000/200000/"
+    ("4000/40020a/4102/3001000300020000/310000000100/310001000101/3100020000/3200000001/3200010002/3f/")
+    -- a CR inside a line, two at its end, one alone in front of LF, and one with no LF behind it
+    ∷ case "10010100/1100/12;07/1f0001/200000/" "4e010003/"
+    ∷ case "10010100/1100/1207;;/1f0001/200000/" "4e010003/"
+    ∷ case "10010100/;/1207/1f0001/" "4e010002/"
+    ∷ case "10010100/1100/1207/1f0001;" "4e010004/"
+    -- `1F` ends a table where it is no line, too
+    ∷ case "10010100/1100/1207/1Fg/200000/" "4e010004/"
+    -- the same in A's third script line
+    ∷ case (table-A ++ "200000;/20000103;/2000;0101;/20000102/") (stopped-A "4e010003/")
+    ∷ case (table-A ++ "200000;/20000103;/20000101;;/20000102/") (stopped-A "4e010003/")
+    ∷ case (table-A ++ "200000;/20000103;/;/") (stopped-A "4e010003/")
+    ∷ case (table-A ++ "200000;/20000103;/20000101;") (stopped-A "4e010003/")
+    ∷ []
+
 -- what a run of the first call alone saves
 called : String
 called = "3001000100000000/310000000100/3f/"
@@ -132,13 +168,6 @@ stuck-cases =
     -- a call
     ∷ case "10010100/1100/120100/1f0001/200000/" ("4000/4100/" ++ called)
     ∷ []
-
--- A's first two steps and their status, what a refused line tells, and the track that they leave
-stopped-A : String → String
-stopped-A refusal =
-    "4000/400200/4100/" ++ refusal
-    ++ "3001000600050001/310000000100/3100010000/31000200020101/310003000101/31000400020201/310005000102/"
-    ++ "3200000001/3200010002/3200010004/3200020003/3200040005/3300020004/3f/"
 
 -- further inputs: refusals of a table, told alone, and of a script's line
 pub further : List Case
@@ -166,11 +195,11 @@ further =
 
 -- each of the inputs is listed as the output that stands beside it
 pub cases-listed
-    : map (λ (c : Case). listing (typed (c .given))) (cases ++ᴸ stuck-cases ++ᴸ further)
-    ≡ map (λ (c : Case). typed (c .expected)) (cases ++ᴸ stuck-cases ++ᴸ further)
+    : map (λ (c : Case). listing (typed (c .given))) (cases ++ᴸ desk-cases ++ᴸ stuck-cases ++ᴸ further)
+    ≡ map (λ (c : Case). typed (c .expected)) (cases ++ᴸ desk-cases ++ᴸ stuck-cases ++ᴸ further)
 unfolding
-    typed case table-A listed-A table-C track-C table-K cases called stuck-cases stopped-A further digit before lines pair bytes
-    frame characters number-from character hex text well-formed all-digits in-range asked known payload-bytes
+    typed case table-A listed-A table-C track-C table-K cases stopped-A desk-cases called stuck-cases further digit before lines pair bytes
+    frame small without-CR strict desk-frame characters number-from character hex text well-formed all-digits in-range asked known payload-bytes
     subterms member frame-of limit longest refusal first-refusal closes next-due seen taken at-end at-line
     judged-from whole-at number-met stage-behind judged leaf-of operator-of grown trees begins under joined
     untouched right-side cells lookup labelled prefixed first-eval around each-with meet jointly carried

@@ -12,11 +12,13 @@ use lib.ListN.{length, drop, replicate, length-append, length-replicate}
 use lib.Dec.{leb}
 use lib.Seq.{sets, sets-eq, length-sets, take-append-seam}
 use borrow.Author.Tests.{le-leb, leb-true}
-use Rattle.lines.specs.Line.{choose, LF, Raw, full, open-ended, lines, bytes, frame, text, two}
+use Rattle.lines.specs.Line.{choose, LF, Raw, full, lines, text, two}
 use Rattle.lines.specs.Judging.{Judged}
 use Rattle.lines.specs.Judging as Judging
 use Rattle.lines.specs.code.Characters.{part}
-use Rattle.lines.proofs.Laws.{lines-first, bytes-length}
+use Rattle.lines.proofs.Laws.{lines-first}
+use Rattle.desk_lines.specs.DeskLine.{desk-frame}
+use Rattle.desk_lines.proofs.Laws.{frame-counts}
 use Rattle.scripts.specs.Script.{Asked, address, refused, asked}
 use Rattle.scripts.specs.code.Answers.{refusal}
 use Rattle.scripts.proofs.Steps.{is-step}
@@ -63,16 +65,17 @@ unfolding text
 alone-long r n = omega (arith, line-length (refusal-frame r n) [], refusal-long r n)
 
 -- a line that asks for a step is 6 characters or more, and its LF
-line-asks : (l : Raw) (ds : List ℕ) → asked (frame l) ≡ address ds
+line-asks : (l : Raw) (ds : List ℕ) → asked (desk-frame l) ≡ address ds
     → (cs : List ℕ) × (l ≡ full cs) × (6 ≤ length cs)
-unfolding frame asked refusal
-line-asks (open-ended cs) ds e = let z : _≡_ {A = ℕ} 0 1 = cc in absurd (omega arith)
-line-asks (full []) ds e = let z : _≡_ {A = ℕ} 0 1 = cc in absurd (omega arith)
-line-asks (full (c ∷ cs)) ds e = (c ∷ cs, refl, go (bytes (c ∷ cs)) refl e)
+unfolding asked refusal
+line-asks l ds e = go (desk-frame l) refl e
   where
-    go : (o : Option (List ℕ)) → bytes (c ∷ cs) ≡ o → asked o ≡ address ds → 6 ≤ length (c ∷ cs)
+    go : (o : Option (List ℕ)) → desk-frame l ≡ o → asked o ≡ address ds
+        → (cs : List ℕ) × (l ≡ full cs) × (6 ≤ length cs)
     go none q e = let z : _≡_ {A = ℕ} 0 1 = cc in absurd (omega arith)
-    go (some bs) q e = omega (arith, bytes-length (c ∷ cs) bs q, is-step bs (sym (ap refusal e)) .headed)
+    go (some bs) q e =
+        let counts = frame-counts l bs q in
+        (counts .0, counts .1, omega (arith, counts .2, is-step bs (sym (ap refusal e)) .headed))
 
 -- the lines of a script's accepted steps
 abbrev steps : Played → List ℕ
@@ -90,7 +93,7 @@ steps-within : (ts : List Term) (s : State) (n : ℕ) (ls : List Raw) (t : List 
 unfolding played goes-on line-answer text
 steps-within ts s n [] t e = omega arith
 steps-within ts s n (l ∷ ls) t e =
-    asking (asked (frame l)) refl (λ s′ t′ e′. steps-within ts s′ (n + 1) ls t′ e′)
+    asking (asked (desk-frame l)) refl (λ s′ t′ e′. steps-within ts s′ (n + 1) ls t′ e′)
   where
     further : State → Played
     further s′ = played ts s′ (n + 1) ls
@@ -106,7 +109,7 @@ steps-within ts s n (l ∷ ls) t e =
         let shorter = within s′ (first .0) (sym (first .2)) in
         rw (first .1) (step-within v (map step-frame (further s′ .events)) cs (first .0) h shorter)
 
-    asking : (a : Asked) → asked (frame l) ≡ a → Within
+    asking : (a : Asked) → asked (desk-frame l) ≡ a → Within
         → length (steps (goes-on s n further (line-answer ts s a))) ≤ length t
     asking (refused r) q within = omega arith
     asking (address ds) q within =

@@ -8,7 +8,8 @@ use mathlib.Core.Option.{Option, none, some}
 use native.Mathlib.Omega.{arith}
 use lib.ListN.{length}
 use lib.Seq.{length-sets}
-use Rattle.lines.specs.Line.{Raw, frame, text}
+use Rattle.lines.specs.Line.{Raw, text}
+use Rattle.desk_lines.specs.DeskLine.{desk-frame}
 use Rattle.scripts.specs.Script.{most, Asked, address, asked}
 use Rattle.scripts.specs.Script as Script
 use Rattle.terms.specs.Term.{Term}
@@ -92,6 +93,6 @@ module _ (l : Layout) (p x : List ℕ) (ts : List Term) where
     stepped-agrees [] n ds long w g c s held = record { events-are = refl; stop-is = refl; holds = held }
     stepped-agrees (k ∷ ls) n ds long w g c s held =
         let answers = line-answers l p x ts table w g c s held ds long 0 k ls in
-        let numbered = asked-numbered ts s (asked (frame k)) (asked-sound (frame k)) in
+        let numbered = asked-numbered ts s (asked (desk-frame k)) (asked-sound (desk-frame k)) in
         line-agrees s _ n _ _ answers numbered _ _
         (stepped-agrees ls (n + 1) _ (length-sets ds 0 (Script.left (k ∷ ls)) ∙ long) _ _ _ _ (answers .holds))

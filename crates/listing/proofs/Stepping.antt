@@ -9,10 +9,10 @@ use native.Mathlib.Omega.{arith}
 use denote.Enum.Declared.{tagOf, declared}
 use lib.ListN.{length, drop, replicate}
 use lib.Seq.{sets, length-sets}
-use Rattle.lines.specs.Line.{Raw, frame, characters, lines, text, hex}
-use Rattle.lines.specs.Line as Line
+use Rattle.lines.specs.Line.{Raw, characters, seen, answer-of, lines, text, hex}
 use Rattle.lines.specs.declared.Line.the-variants.{Found}
-use Rattle.lines.proofs.Laws.{is-line}
+use Rattle.desk_lines.specs.DeskLine.{strict, desk-frame, desk-answer}
+use Rattle.desk_lines.proofs.Laws.{desk-line}
 use Rattle.scripts.specs.Script.{Asked, address, refused, asked, left}
 use Rattle.scripts.specs.Script as Script
 use Rattle.rules.specs.declared.Event.{Event}
@@ -104,7 +104,7 @@ module _ (p x w g c : List ℕ) (at : ℕ) where
   unfolding plays.played Script.answer
   played-anywhere l ls ds =
       let n = length (characters l) in
-      asked-anywhere p x w g c (at + n + 1) (0 + n + 1) (asked (frame l)) (sets ds 0 (left (l ∷ ls)))
+      asked-anywhere p x w g c (at + n + 1) (0 + n + 1) (asked (desk-frame l)) (sets ds 0 (left (l ∷ ls)))
 
   -- so lines go by the first
   stepped-first : (n : ℕ) (l : Raw) (ls : List Raw) (ds : List ℕ)
@@ -124,20 +124,23 @@ module _ (p x w g c : List ℕ) (at : ℕ) where
 
   -- a step is a line, as the line reader has it
   step-found : (ls : List Raw) (ds : List ℕ) (e : Event) (next : ℕ) → first ls ds .played ≡ Stepped e next
-      → (end : ℕ) × (Line.answer at ls ≡ Found end next)
-  unfolding plays.played Script.answer Script.told plays.by-line Line.answer Line.seen asked
+      → (end : ℕ) × (desk-answer at ls ≡ Found end next)
+  unfolding plays.played Script.answer Script.told plays.by-line answer-of seen asked
   step-found [] ds e next h = let z : _≡_ {A = ℕ} 0 1 = cc in absurd (omega arith)
-  step-found (l ∷ ls) ds e next h = go (frame l) h
+  step-found (l ∷ ls) ds e next h = go (desk-frame l) h
     where
       end : ℕ
-      end = at + length (characters l)
+      end = at + length (characters (strict l))
+
+      behind : ℕ
+      behind = at + length (characters l) + 1
 
       go : (o : Option (List ℕ))
-          → plays.by-line p x w g c (Script.told (end + 1) (asked o)) (sets ds 0 (left (l ∷ ls))) .played
+          → plays.by-line p x w g c (Script.told behind (asked o)) (sets ds 0 (left (l ∷ ls))) .played
           ≡ Stepped e next
-          → (m : ℕ) × (Line.seen at (characters l) o ≡ Found m next)
+          → (m : ℕ) × (seen end behind o ≡ Found m next)
       go none h = let z : _≡_ {A = ℕ} 0 1 = cc in absurd (omega arith)
-      go (some bs) h = (end, ap (Found end) (asked-next p x w g c (end + 1) (asked (some bs)) _ e next h))
+      go (some bs) h = (end, ap (Found end) (asked-next p x w g c behind (asked (some bs)) _ e next h))
 
   -- a step at the cursor of a script: the lines behind it stand from `next` on
   record Went (script : List ℕ) (n : ℕ) (ds : List ℕ) (e : Event) (next : ℕ) : Type 0 where
@@ -151,7 +154,7 @@ module _ (p x w g c : List ℕ) (at : ℕ) where
   unfolding by-played
   lines-go script n ds e next h =
       let found = step-found (lines (drop at script)) ds e next h in
-      let line = is-line script at (found .0) next (found .1) in
+      let line = desk-line script at (found .0) next (found .1) in
       let is = rw (line .first) at h in
       record {
         on = omega (arith, line .some-bytes, line .behind);

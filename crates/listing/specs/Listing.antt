@@ -3,8 +3,9 @@ use Prim.Native.Nat.{ℕ, _+_}
 use mathlib.Core.List.{List, [], _∷_, _++_, map}
 use lib.ListN.{length}
 use lib.Dec.{leb}
-use Rattle.lines.specs.Line.{choose, Raw, frame, lines, text}
+use Rattle.lines.specs.Line.{choose, Raw, lines, text}
 use Rattle.lines.specs.Judging.{Judged, accepted, refused}
+use Rattle.desk_lines.specs.DeskLine.{desk-frame}
 use Rattle.scripts.specs.Script.{asked}
 use Rattle.tables.specs.Table.{Sofar, judged}
 use Rattle.terms.specs.Term.{Term, definitions-of}
@@ -39,7 +40,7 @@ goes-on s n rest (Run.refused r) = record { events = []; end = refused-at r n; s
 unfoldable pub played : List Term → State → ℕ → List Raw → Played
 played ts s n [] = record { events = []; end = played-out; state = s }
 played ts s n (l ∷ ls) =
-    goes-on s n (λ t. played ts t (n + 1) ls) (line-answer ts s (asked (frame l)))
+    goes-on s n (λ t. played ts t (n + 1) ls) (line-answer ts s (asked (desk-frame l)))
 
 -- the room of a script's text, and of the slice that the track is saved through
 abbrev pub script-room : ℕ

@@ -6,6 +6,7 @@ use columns::Roots;
 use finding::mark_of;
 use frames::PATH_ROOM;
 use graphs::NODE_FRAME;
+use line_reader::Spelling;
 use line_reader::characters;
 use line_reader::next_line;
 use lines::Line;
@@ -53,7 +54,7 @@ pub fn read_nodes(
     let mut k: usize = 0;
     while k < count {
         let line = k + FIRST_NODE;
-        let found = next_line(text, at);
+        let found = next_line(text, at, Spelling::Strict);
         let Line::Found { end, next } = found else {
             return Lines::Stops {
                 number: refusal_of(found),

@@ -2,8 +2,8 @@
 -- that is read, and up to eight of them make the number that is read. Of a line's characters they are its bytes.
 -- Assumes nothing.
 use Prim.Native.Nat.{ℕ, suc, _+_, _*_, _/_, _≤_, _<_, zero, _-_, _%_}
-use mathlib.Core.Path.{_≡_, refl, sym, ap}
-use mathlib.Core.List.{List, [], _∷_}
+use mathlib.Core.Path.{_≡_, refl, sym, ap, _∙_}
+use mathlib.Core.List.{List, [], _∷_, map}
 use mathlib.Core.Option.{some}
 use native.Mathlib.Omega.{arith}
 use lib.ListN.{length, take, drop, getD, length-drop, List·getD-eq-default}
@@ -12,7 +12,8 @@ use Rattle.lines.specs.Line.{number, number-from, bytes, digit}
 use Rattle.lines.proofs.Digits.{pair-some}
 use Rattle.numbers.specs.code.Numbers.{read-bytes, byteAt, byteOf, numberOf}
 use native.Mathlib.Nat.{zero-add, suc-add}
-use Rattle.numbers.proofs.Digits.{value-digit}
+use Rattle.desk_lines.specs.DeskLine.{small}
+use Rattle.numbers.proofs.Digits.{value-digit, value-small}
 
 -- a byte for every two characters
 pub read-length : (cs : List ℕ) → length (read-bytes cs) ≡ length cs / 2
@@ -128,3 +129,13 @@ bytes-read (h ∷ []) bs e = let z : _≡_ {A = ℕ} 0 1 = cc in absurd (omega a
 bytes-read (h ∷ l ∷ cs) bs e =
     let r = pair-some (digit h) (digit l) (bytes cs) bs e in
     rw (r .2 .2, byte-digits h l (r .0) (r .1), bytes-read cs (r .2 .0) (r .2 .1))
+
+-- and so are those of a desk's line, whose capitals count as small letters do
+read-small : (cs : List ℕ) → read-bytes (map small cs) ≡ read-bytes cs
+unfolding read-bytes
+read-small [] = refl
+read-small (h ∷ []) = refl
+read-small (h ∷ l ∷ cs) = rw (value-small h, value-small l, read-small cs)
+
+pub desk-read : (cs bs : List ℕ) → bytes (map small cs) ≡ some bs → read-bytes cs ≡ bs
+desk-read cs bs e = sym (read-small cs) ∙ bytes-read (map small cs) bs e

@@ -10,7 +10,7 @@ use native.Mathlib.Omega.{arith}
 use lib.ListN.{length, drop, length-append}
 use lib.Dec.{leb, eqb}
 use borrow.Author.Tests.{eq-eqb, ne-eqb, not-true, not-false}
-use Rattle.lines.specs.Line.{Raw, lines, bytes, characters, answer}
+use Rattle.lines.specs.Line.{Raw, lines, bytes, characters, strict-form, answer}
 use Rattle.lines.specs.Line as line
 use Rattle.lines.specs.code.Characters.{part}
 use Rattle.lines.specs.declared.Line.{Line}
@@ -51,8 +51,8 @@ module _ {A : Type 0} (stops : ℕ → A) (meets : List ℕ → ℕ) (leads : Li
   no-line : (l : Line) → l ≡ answer at (lines (drop at text)) → NotFound l → stops (line.refusal l) ≡ here
   unfolding line.refusal line-read by-frame
   no-line (Found e n) q h = absurd (h e n refl)
-  no-line NoLine q h = let r = not-a-line text at (sym q) in rw (r .first, r .broken)
-  no-line End q h = rw (none-left text at (sym q))
+  no-line NoLine q h = let r = not-a-line strict-form text at (sym q) in rw (r .first, r .broken)
+  no-line End q h = rw (none-left strict-form text at (sym q))
 
   none-stops : {l : Line} → l ≡ answer at (lines (drop at text)) → NotFound l → {x : ℕ} → x ≡ line.refusal l
       → stops x ≡ here
@@ -117,11 +117,11 @@ module _ (text : List ℕ) where
 module _ (text : List ℕ) (at k : ℕ) where
   pub behind-end : answer at (lines (drop at text)) ≡ End → Goes at ≡ none-read k at (lines (drop at text))
   unfolding none-read
-  behind-end e = rw (none-left text at e)
+  behind-end e = rw (none-left strict-form text at e)
 
   pub behind-no-line : answer at (lines (drop at text)) ≡ NoLine → Stops 1 k ≡ none-read k at (lines (drop at text))
   unfolding none-read by-frame
-  behind-no-line e = let b = not-a-line text at e in rw (b .first, b .broken)
+  behind-no-line e = let b = not-a-line strict-form text at e in rw (b .first, b .broken)
 
   pub behind-line : {e m : ℕ} → answer at (lines (drop at text)) ≡ Found e m
       → Stops 2 k ≡ none-read k at (lines (drop at text))

@@ -11,7 +11,7 @@ use native.Mathlib.Nat.{add-zero}
 use lib.ListN.{length, drop, replicate}
 use lib.Dec.{leb, eqb}
 use borrow.Author.Tests.{eqb-true, leb-true}
-use Rattle.lines.specs.Line.{choose, Raw, lines, frame, characters, seen, answer}
+use Rattle.lines.specs.Line.{choose, Raw, lines, frame, characters, seen, answer-of, answer}
 use Rattle.lines.specs.Judging.{Judged, accepted, refused, at-end, at-line, judged-from}
 use Rattle.lines.specs.declared.Line.the-variants.{Found}
 use Rattle.lines.proofs.Digits.{both}
@@ -48,7 +48,7 @@ stops-there on w e = w ∙ ap (onward on) e
 -- the lines behind a line are those from where the next line begins
 next-lines : (text : List ℕ) (at : ℕ) (l : Raw) (ls : List Raw) → lines (drop at text) ≡ l ∷ ls → (bs : List ℕ)
     → frame l ≡ some bs → ls ≡ lines (drop (at + length (characters l) + 1) text)
-unfolding answer seen
+unfolding answer-of seen
 next-lines text at l ls q bs f =
     let end = at + length (characters l) in
     let found : answer at (lines (drop at text)) ≡ Found end (end + 1) = rw (q, f) in

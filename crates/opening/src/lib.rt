@@ -3,6 +3,7 @@
 use graphs::TRACK_EDITION;
 use graphs::TRACK_END_FRAME;
 use graphs::TRACK_FRAME;
+use line_reader::Spelling;
 use line_reader::characters;
 use line_reader::next_line;
 use lines::Line;
@@ -45,7 +46,7 @@ pub enum Lines {
 pub fn first_line(text: &[u8]) -> TrackOpened
     ensures { λ r. ⌜ r ≡ of.opened (lines (now (text .entry))) ⌝ }
 {
-    let line = next_line(text, 0);
+    let line = next_line(text, 0, Spelling::Strict);
     let Line::Found { end, next } = line else {
         return TrackOpened::Fails(refusal_of(line));
     };
@@ -94,7 +95,7 @@ pub fn last_lines(text: &[u8], at: usize, line: usize) -> Lines
     requires { ⌜ line ≤ 20000 ⌝ }
     ensures { λ r. ⌜ r ≡ of.last-read line at (lines (drop at (now (text .entry)))) ⌝ }
 {
-    let found = next_line(text, at);
+    let found = next_line(text, at, Spelling::Strict);
     let Line::Found { end, next } = found else {
         return Lines::Stops {
             number: refusal_of(found),
@@ -121,7 +122,7 @@ pub fn last_lines(text: &[u8], at: usize, line: usize) -> Lines
 fn behind_last(text: &[u8], at: usize, line: usize) -> Lines
     ensures { λ r. ⌜ r ≡ of.none-read line at (lines (drop at (now (text .entry)))) ⌝ }
 {
-    let found = next_line(text, at);
+    let found = next_line(text, at, Spelling::Strict);
     match found {
         Line::End => Lines::Goes(at),
         Line::NoLine => Lines::Stops {

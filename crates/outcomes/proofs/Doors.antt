@@ -21,6 +21,7 @@ use Rattle.outcomes.proofs.Settling.{by-equation, both}
 use Rattle.lines.proofs.find_line.Reads as lines-find-line
 use Rattle.lines.proofs.part_of.Reads as lines-part-of
 use Rattle.lines.proofs.refusal_of.Reads as lines-refusal-of
+use Rattle.desk_lines.proofs.find_desk_line.Reads as desk-lines-find-desk-line
 use Rattle.line_reader.proofs.next_line.Reads as line-reader-next-line
 use Rattle.line_reader.proofs.characters.Reads as line-reader-characters
 use Rattle.numbers.proofs.byte.Reads as numbers-byte
@@ -72,6 +73,9 @@ lines-part-of-settled = by-equation (λ κ lent x s p. p)
 
 pub lines-refusal-of-settled : Settles lines-refusal-of.Learnt (λ κ x s. x)
 lines-refusal-of-settled = by-equation (λ κ lent x s p. p)
+
+pub desk-lines-find-desk-line-settled : Settles desk-lines-find-desk-line.Learnt (λ κ x s. x)
+desk-lines-find-desk-line-settled = by-equation (λ κ lent x s p. p)
 
 pub line-reader-next-line-settled : Settles line-reader-next-line.Learnt (λ κ x s. x)
 line-reader-next-line-settled = by-equation (λ κ lent x s p. p)

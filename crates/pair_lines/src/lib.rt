@@ -1,6 +1,7 @@
 // The lines of a saved track's pairs, its arcs or its meetings, read into the words of a track: each line is judged as it comes.
 // It relies on the line reader, and on the bytes of a line.
 use control::Track;
+use line_reader::Spelling;
 use line_reader::characters;
 use line_reader::next_line;
 use lines::Line;
@@ -40,7 +41,7 @@ pub fn read_pairs(
     let mut i: usize = 0;
     while i < count {
         let line = first + i;
-        let found = next_line(text, at);
+        let found = next_line(text, at, Spelling::Strict);
         let Line::Found { end, next } = found else {
             return Lines::Stops {
                 number: refusal_of(found),

@@ -11,8 +11,9 @@ use lib.ListN.{length}
 use lib.Dec.{leb}
 use lib.Seq.{sets}
 use borrow.Author.Tests.{leb-true}
-use Rattle.lines.specs.Line.{choose, Raw, frame, characters}
+use Rattle.lines.specs.Line.{choose, Raw, characters}
 use Rattle.lines.proofs.Digits.{both}
+use Rattle.desk_lines.specs.DeskLine.{desk-frame}
 use Rattle.scripts.specs.Script.{most, digits, well-formed, all-digits, in-range, Asked, address, asked}
 use Rattle.scripts.specs.Script.{digits-of}
 use Rattle.scripts.specs.Script as Script
@@ -75,9 +76,9 @@ module _ (l : Layout) (p x : List ℕ) (ts : List Term) where
 
     -- the first of a script's lines, wherever it stands
     pub line-answers : (at : ℕ) (k : Raw) (ls : List Raw)
-        → Answers s (at + length (characters k) + 1) (played p x w g c at (k ∷ ls) ds) (line-answer ts s (asked (frame k)))
+        → Answers s (at + length (characters k) + 1) (played p x w g c at (k ∷ ls) ds) (line-answer ts s (asked (desk-frame k)))
     unfolding played Script.answer Script.left
-    line-answers at k ls = asked-answers _ (asked (frame k)) (asked-sound (frame k))
+    line-answers at k ls = asked-answers _ (asked (desk-frame k)) (asked-sound (desk-frame k))
 
 -- what a line comes to, whatever the words hold, is what it owes a run
 module _ (p x w g c : List ℕ) (at : ℕ) (ds : List ℕ) where

@@ -12,6 +12,7 @@ use frames::read_frame;
 use kinds::CALL;
 use kinds::PARALLEL;
 use kinds::PREFIX;
+use line_reader::Spelling;
 use line_reader::characters;
 use line_reader::next_line;
 use lines::INCOMPLETE;
@@ -50,7 +51,7 @@ pub enum Said {
 pub fn first_line(text: &[u8]) -> TableOpened
     ensures { λ r. ⌜ r ≡ opened (lines (now (text .entry))) ⌝ }
 {
-    let line = next_line(text, 0);
+    let line = next_line(text, 0, Spelling::Desk);
     let Line::Found { end, next } = line else {
         return TableOpened::Fails(refusal_of(line));
     };
@@ -93,7 +94,7 @@ fn opening_outside(edition: u8, definitions: u8, events: u8) -> bool
 pub fn table_line(text: &[u8], at: usize, s: Seen) -> Said
     ensures { λ r. ⌜ r ≡ said (λ f. table.refusal f s) at (lines (drop at (now (text .entry)))) ⌝ }
 {
-    let line = next_line(text, at);
+    let line = next_line(text, at, Spelling::Desk);
     let Line::Found { end, next } = line else {
         return Said::Stops(refusal_of(line));
     };

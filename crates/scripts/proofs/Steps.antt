@@ -4,20 +4,22 @@
 use Prim.Native.Nat.{ℕ, _≤_, _-_, _/_}
 use mathlib.Core.Path.{_≡_, refl, sym, ap, _∙_}
 use mathlib.Core.Bool.{Bool, true, false, _&&_}
-use mathlib.Core.List.{List, []}
+use mathlib.Core.List.{List, [], map}
 use mathlib.Core.Option.{some}
 use native.Mathlib.Omega.{arith}
 use lib.ListN.{length, take, drop, getD, length-drop}
 use lib.Dec.{leb, eqb}
 use borrow.Author.Tests.{leb-true}
-use Rattle.lines.specs.Line.{choose, number, lines, bytes, characters, answer as line-at}
+use Rattle.lines.specs.Line.{choose, number, lines, bytes, characters}
 use Rattle.lines.specs.code.Characters.{part}
 use Rattle.lines.specs.declared.Line.{Line}
 use Rattle.lines.specs.declared.Line.the-variants.{Found, NoLine, End as NoneLeft}
 use Rattle.lines.proofs.Digits.{both}
-use Rattle.lines.proofs.Laws.{IsLine, is-line, not-a-line, none-left, past}
+use Rattle.lines.proofs.Laws.{not-a-line, none-left}
+use Rattle.desk_lines.specs.DeskLine.{small, desk-form, desk-answer}
+use Rattle.desk_lines.proofs.Laws.{DeskLine, desk-line}
 use Rattle.numbers.specs.code.Numbers.{read-bytes}
-use Rattle.numbers.proofs.Laws.{read-length, bytes-read}
+use Rattle.numbers.proofs.Laws.{read-length, desk-read}
 use Rattle.scripts.specs.declared.ScriptStep.{ScriptStep}
 use Rattle.scripts.specs.declared.ScriptStep.the-variants.{Address, Refused}
 use Rattle.scripts.specs.Script.{most, digits, well-formed, all-digits, in-range, asked, Asked, address}
@@ -75,30 +77,30 @@ module _ (s : List ℕ) (at : ℕ) where
     pub told : Address (length cs / 2 - 3) n ≡ answer at (lines (drop at s))
     pub stored : left (lines (drop at s)) ≡ digits (read-bytes cs)
 
-  pub no-line : (line : Line) → line ≡ line-at at (lines (drop at s)) → ((e n : ℕ) → line ≡ Found e n → ⊥)
+  pub no-line : (line : Line) → line ≡ desk-answer at (lines (drop at s)) → ((e n : ℕ) → line ≡ Found e n → ⊥)
       → NoStep (without-line line)
   unfolding without-line answer left told asked digits-of
   no-line (Found e n) q h = absurd (h e n refl)
   no-line NoLine q h =
-      let l = not-a-line s at (sym q) in
+      let l = not-a-line desk-form s at (sym q) in
       record { told = rw (l .first, l .broken); bare = rw (l .first, l .broken) }
   no-line NoneLeft q h =
-      let l = none-left s at (sym q) in
+      let l = none-left desk-form s at (sym q) in
       record { told = rw l; bare = rw l }
 
   -- the line that the finder found
-  module _ (e n : ℕ) (found : line-at at (lines (drop at s)) ≡ Found e n) where
-    line : IsLine s at e n
-    line = is-line s at e n found
+  module _ (e n : ℕ) (found : desk-answer at (lines (drop at s)) ≡ Found e n) where
+    line : DeskLine s at e n
+    line = desk-line s at e n found
 
     -- its characters, and the number that the judging gave them
     module _ (cs : List ℕ) (own : cs ≡ part s at e) (r : ℕ) (judged : r ≡ refusal (asked (some (read-bytes cs)))) where
       stands : line .held ≡ read-bytes cs
-      stands = sym (bytes-read cs (line .held) (ap bytes own ∙ line .stands))
+      stands = sym (desk-read cs (line .held) (ap (λ (x : List ℕ). bytes (map small x)) own ∙ line .stands))
 
       answered : (a : Asked) → asked (some (read-bytes cs)) ≡ a → told n a ≡ answer at (lines (drop at s))
       unfolding answer characters
-      answered a q = rw (line .first, line .framed, stands, q, past s at e n line)
+      answered a q = rw (line .first, line .framed, stands, q, line .past)
 
       leaves : (a : Asked) → asked (some (read-bytes cs)) ≡ a → left (lines (drop at s)) ≡ digits-of a
       unfolding left

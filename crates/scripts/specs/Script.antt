@@ -6,7 +6,8 @@ use mathlib.Core.List.{List, [], _∷_}
 use mathlib.Core.Option.{Option, none, some}
 use lib.ListN.{length, getD, take, drop}
 use lib.Dec.{leb, eqb}
-use Rattle.lines.specs.Line.{choose, number, Raw, frame, characters}
+use Rattle.lines.specs.Line.{choose, number, Raw, characters}
+use Rattle.desk_lines.specs.DeskLine.{desk-frame}
 use Rattle.scripts.specs.declared.ScriptStep.{ScriptStep}
 use Rattle.scripts.specs.declared.ScriptStep.the-variants.{Address, Refused, End}
 
@@ -57,9 +58,9 @@ told next (refused r) = Refused r
 -- the answer for the first of a script's lines, where they stand from `at` on
 unfoldable pub answer : ℕ → List Raw → ScriptStep
 answer at [] = End
-answer at (l ∷ ls) = told (at + length (characters l) + 1) (asked (frame l))
+answer at (l ∷ ls) = told (at + length (characters l) + 1) (asked (desk-frame l))
 
 -- the digits that the first of a script's lines leaves in the lent array
 unfoldable pub left : List Raw → List ℕ
 left [] = []
-left (l ∷ ls) = digits-of (asked (frame l))
+left (l ∷ ls) = digits-of (asked (desk-frame l))

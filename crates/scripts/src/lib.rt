@@ -1,5 +1,6 @@
 // A script's lines: each asks for a step by an address, whose digits go into a lent array.
 // It relies on the line reader for where a line ends and what its bytes are.
+use line_reader::Spelling;
 use line_reader::characters;
 use line_reader::next_line;
 use lines::Line;
@@ -52,7 +53,7 @@ pub fn next_step(text: &[u8], at: usize, digits: &mut Digits) -> ScriptStep
     ensures { λ _. ⌜ now (digits .exit)
         ≡ sets (now (digits .entry)) 0 (left (lines (drop at (now (text .entry))))) ⌝ }
 {
-    let line = next_line(text, at);
+    let line = next_line(text, at, Spelling::Desk);
     let Line::Found { end, next } = line else {
         return no_step(line);
     };

@@ -8,6 +8,7 @@ use lib.ListN.{replicate}
 use Rattle.lines.specs.Line.{character, hex, text, digit, before, lines, pair, bytes, frame, characters}
 use Rattle.lines.specs.Line.{number-from}
 use Rattle.lines.specs.Judging.{at-end, at-line, judged-from}
+use Rattle.desk_lines.specs.DeskLine.{small, without-CR, strict, desk-frame}
 use Rattle.kinds.specs.Kind.{known, payload-bytes, subterms}
 use Rattle.frames.specs.TableFrame.{frame-of, limit, longest, refusal, first-refusal, closes}
 use Rattle.tables.specs.Table.{next-due, seen, taken, whole-at, number-met, stage-behind, judged}
@@ -83,7 +84,7 @@ answers =
 
 pub cases-judged : map (λ (t : List ℕ). answer (judged t)) texts ≡ answers
 unfolding opening first e0 SKIP STOP case-A prefixes of texts answers character hex text digit before lines
-    pair bytes frame characters number-from known payload-bytes subterms frame-of limit longest refusal
+    pair bytes frame small without-CR strict desk-frame characters number-from known payload-bytes subterms frame-of limit longest refusal
     first-refusal closes next-due seen taken at-end at-line judged-from whole-at number-met stage-behind judged
     answer
 cases-judged = refl

@@ -8,11 +8,11 @@ use native.Mathlib.Omega.{arith}
 use lib.ListN.{length, drop}
 use lib.Dec.{eqb}
 use borrow.Author.Tests.{eqb-true}
-use Rattle.lines.specs.Line.{choose, Raw, frame, lines, characters}
-use Rattle.lines.specs.Line as Line
+use Rattle.lines.specs.Line.{choose, Raw, lines, characters, answer-of, seen as seen-line}
 use Rattle.lines.specs.Judging.{Judged, refused, judged-from}
 use Rattle.lines.specs.declared.Line.the-variants.{Found}
-use Rattle.lines.proofs.Laws.{IsLine, is-line}
+use Rattle.desk_lines.specs.DeskLine.{strict, desk-frame, desk-answer}
+use Rattle.desk_lines.proofs.Laws.{DeskLine, desk-line}
 use Rattle.lines.proofs.Judging.{ends-early, no-line-fails, line-fails, line-taken}
 use Rattle.frames.specs.TableFrame.{frame-of, refusal, closes}
 use Rattle.tables.specs.Table.{Sofar, seen, taken, within, closed, whole-at, number-met, stage-behind}
@@ -29,12 +29,13 @@ pub record Onward (t : List ℕ) (at next : ℕ) (ls : List Raw) : Type 0 where
   pub behind-it : ls ≡ lines (drop next t)
 
 pub onward : (t : List ℕ) (at : ℕ) (l : Raw) (ls : List Raw) (bs : List ℕ) → lines (drop at t) ≡ l ∷ ls
-    → frame l ≡ some bs → Onward t at (at + length (characters l) + 1) ls
-unfolding Line.answer Line.seen
+    → desk-frame l ≡ some bs → Onward t at (at + length (characters l) + 1) ls
+unfolding answer-of seen-line
 onward t at l ls bs q e =
-    let end = at + length (characters l) in
-    let found : Line.answer at (lines (drop at t)) ≡ Found end (end + 1) = rw (q, e) in
-    let i : IsLine t at end (end + 1) = is-line t at _ _ found in
+    let end = at + length (characters (strict l)) in
+    let next = at + length (characters l) + 1 in
+    let found : desk-answer at (lines (drop at t)) ≡ Found end next = rw (q, e) in
+    let i : DeskLine t at end next = desk-line t at end next found in
     let f = i .first in
     record { on = omega arith; within = i .within; behind-it = cc }
 
@@ -84,7 +85,7 @@ module _ (S : Sofar) (t : List ℕ) (at n : ℕ) where
   unfolding said heard whole-at number-met
   rest-stops k e = go (lines (drop at t)) e
     where
-      by-frame : (l : Raw) (ls : List Raw) (o : Option (List ℕ)) → frame l ≡ o
+      by-frame : (l : Raw) (ls : List Raw) (o : Option (List ℕ)) → desk-frame l ≡ o
           → heard (λ (f : Frame). refusal f (seen S)) (at + length (characters l) + 1) o ≡ Stops k
           → rest (l ∷ ls) ≡ refused k n
       by-frame l ls none f e = let one : 1 ≡ k = cc in rw (← one) (no-line-fails table-lines (within S) n l ls f)
@@ -94,13 +95,13 @@ module _ (S : Sofar) (t : List ℕ) (at n : ℕ) where
 
       go : (ls : List Raw) → told ls ≡ Stops k → rest ls ≡ refused k n
       go [] e = let two : 2 ≡ k = cc in rw (← two) (ends-early table-lines (within S) n refl)
-      go (l ∷ ls) e = by-frame l ls (frame l) refl e
+      go (l ∷ ls) e = by-frame l ls (desk-frame l) refl e
 
   -- what is judged behind a line that meets none: it is the last, or is taken in
   abbrev pub further : Frame → List Raw → Judged Sofar
   further f ls = judged-from table-lines (choose (closes f) (closed S) (within (taken S f))) (n + 1) ls
 
-  one-more : (l : Raw) (ls : List Raw) (bs : List ℕ) → frame l ≡ some bs → refusal (frame-of bs) (seen S) ≡ 0
+  one-more : (l : Raw) (ls : List Raw) (bs : List ℕ) → desk-frame l ≡ some bs → refusal (frame-of bs) (seen S) ≡ 0
       → rest (l ∷ ls) ≡ further (frame-of bs) ls
   unfolding number-met stage-behind
   one-more l ls bs e z = line-taken table-lines (within S) n l ls e z
@@ -118,7 +119,7 @@ module _ (S : Sofar) (t : List ℕ) (at n : ℕ) where
       go : (ls : List Raw) → lines (drop at t) ≡ ls → told ls ≡ Goes f next → Went f next
       go [] q e = let z : _≡_ {A = ℕ} 0 1 = cc in absurd (omega arith)
       go (l ∷ ls) q e =
-          let h = heard-goes (λ (g : Frame). refusal g (seen S)) _ (frame l) f next e in
+          let h = heard-goes (λ (g : Frame). refusal g (seen S)) _ (desk-frame l) f next e in
           let o : Onward t at next ls = rw (h .4) at (onward t at l ls (h .0) q (h .1)) in
           let z : refusal (frame-of (h .0)) (seen S) ≡ 0 = rw (h .2) at (h .3) in
           let turn = one-more l ls (h .0) (h .1) z in

@@ -7,11 +7,12 @@ use mathlib.Core.List.{List, [], _∷_}
 use native.Mathlib.Omega.{arith}
 use lib.ListN.{length, drop, length-replicate, replicate}
 use Rattle.lines.specs.Line.{Raw, lines}
-use Rattle.lines.specs.Line as Line
 use Rattle.lines.specs.Judging.{Judged, accepted, refused, judged-from}
 use Rattle.lines.specs.declared.Line.the-variants.{Found, NoLine, End}
-use Rattle.lines.proofs.Laws.{is-line, not-a-line, none-left}
 use Rattle.lines.proofs.Judging.{ends-whole, no-line-fails, line-fails, accepted-whole, accepted-line}
+use Rattle.lines.proofs.Laws.{not-a-line, none-left}
+use Rattle.desk_lines.specs.DeskLine.{desk-form, desk-answer}
+use Rattle.desk_lines.proofs.Laws.{desk-line}
 use Rattle.frames.specs.TableFrame.{refusal, closes}
 use Rattle.tables.specs.Table.{Sofar, next-due, seen, taken, within, closed, whole-at, number-met}
 use Rattle.tables.specs.Table.{table-lines}
@@ -34,21 +35,21 @@ abbrev behind : Sofar → ℕ → List Raw → Judged Sofar
 behind s n ls = judged-from table-lines (closed s) n ls
 
 module _ (S : Sofar) (t : List ℕ) (at n : ℕ) where
-  pub behind-end : Line.answer at (lines (drop at t)) ≡ End → accepted S ≡ behind S n (lines (drop at t))
+  pub behind-end : desk-answer at (lines (drop at t)) ≡ End → accepted S ≡ behind S n (lines (drop at t))
   unfolding whole-at
-  behind-end e = rw (none-left t at e) (sym (ends-whole table-lines (closed S) n refl))
+  behind-end e = rw (none-left desk-form t at e) (sym (ends-whole table-lines (closed S) n refl))
 
-  pub behind-no-line : Line.answer at (lines (drop at t)) ≡ NoLine
+  pub behind-no-line : desk-answer at (lines (drop at t)) ≡ NoLine
       → refused 1 n ≡ behind S n (lines (drop at t))
   behind-no-line e =
-      let b = not-a-line t at e in
+      let b = not-a-line desk-form t at e in
       rw (b .first) (sym (no-line-fails table-lines (closed S) n _ _ (b .broken)))
 
-  pub behind-line : (e m : ℕ) → Line.answer at (lines (drop at t)) ≡ Found e m
+  pub behind-line : (e m : ℕ) → desk-answer at (lines (drop at t)) ≡ Found e m
       → refused 2 n ≡ behind S n (lines (drop at t))
   unfolding number-met
   behind-line e m h =
-      let b = is-line t at e m h in
+      let b = desk-line t at e m h in
       rw (b .first) (sym (line-fails table-lines (closed S) n _ _ (b .framed) refl refl))
 
 -- the answer for a table that is accepted

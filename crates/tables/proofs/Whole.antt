@@ -11,9 +11,10 @@ use lib.ListN.{length, drop, replicate, length-replicate, length-map}
 use lib.Seq.{sets, sets-eq}
 use lib.Dec.{leb, eqb}
 use borrow.Author.Tests.{le-leb, lt-leb, leb-true}
-use Rattle.lines.specs.Line.{choose, Raw, frame, lines, characters}
+use Rattle.lines.specs.Line.{choose, Raw, lines, characters}
 use Rattle.lines.specs.Judging.{Judged, accepted, refused, judged-from}
 use Rattle.lines.proofs.Judging.{ends-early, no-line-fails, line-fails, line-taken}
+use Rattle.desk_lines.specs.DeskLine.{desk-frame}
 use Rattle.frames.specs.TableFrame.{frame-of, first-refusal}
 use Rattle.tables.specs.Table.{Item, Sofar, taken, unopened, at-start, within, whole-at, number-met}
 use Rattle.tables.specs.Table.{stage-behind, table-lines, judged, text-room}
@@ -82,7 +83,7 @@ from-first ls = judged-from table-lines at-start 1 ls
 abbrev behind-first : ℕ → ℕ → List Raw → Judged Sofar
 behind-first d e ls = judged-from table-lines (within (begins d e)) 2 ls
 
-first-opens : (l : Raw) (ls : List Raw) (bs : List ℕ) (d e : ℕ) → frame l ≡ some bs → Opens (frame-of bs) d e
+first-opens : (l : Raw) (ls : List Raw) (bs : List ℕ) (d e : ℕ) → desk-frame l ≡ some bs → Opens (frame-of bs) d e
     → from-first (l ∷ ls) ≡ behind-first d e ls
 unfolding number-met stage-behind
 first-opens l ls bs d e f o = line-taken table-lines at-start 1 l ls f (o .0) ∙ rw (o .1)
@@ -92,7 +93,7 @@ pub table-opens : (t : List ℕ) (d e n : ℕ) → opened (lines t) ≡ Table d 
 unfolding opened opened-by
 table-opens t d e n q = go (lines t) refl q
   where
-    by-frame : (l : Raw) (ls : List Raw) (o : Option (List ℕ)) → lines t ≡ l ∷ ls → frame l ≡ o
+    by-frame : (l : Raw) (ls : List Raw) (o : Option (List ℕ)) → lines t ≡ l ∷ ls → desk-frame l ≡ o
         → opened-by (length (characters l) + 1) o ≡ Table d e n
         → (from-first (l ∷ ls) ≡ behind-first d e (lines (drop n t))) × (d ≤ 64)
     by-frame l ls none w f q = let z : _≡_ {A = ℕ} 0 1 = cc in absurd (omega arith)
@@ -106,14 +107,14 @@ table-opens t d e n q = go (lines t) refl q
     go : (ls : List Raw) → lines t ≡ ls → opened ls ≡ Table d e n
         → (from-first ls ≡ behind-first d e (lines (drop n t))) × (d ≤ 64)
     go [] w q = let z : _≡_ {A = ℕ} 0 1 = cc in absurd (omega arith)
-    go (l ∷ ls) w q = by-frame l ls (frame l) w refl q
+    go (l ∷ ls) w q = by-frame l ls (desk-frame l) w refl q
 
 pub table-fails : (ls : List Raw) (k : ℕ) → opened ls ≡ Fails k → from-first ls ≡ refused k 1
 unfolding opened opened-by whole-at number-met
 table-fails [] k q = let two : 2 ≡ k = cc in rw (← two) (ends-early table-lines at-start 1 refl)
-table-fails (l ∷ ls) k q = by-frame (frame l) refl q
+table-fails (l ∷ ls) k q = by-frame (desk-frame l) refl q
   where
-    by-frame : (o : Option (List ℕ)) → frame l ≡ o → opened-by (length (characters l) + 1) o ≡ Fails k
+    by-frame : (o : Option (List ℕ)) → desk-frame l ≡ o → opened-by (length (characters l) + 1) o ≡ Fails k
         → from-first (l ∷ ls) ≡ refused k 1
     by-frame none f q = let one : 1 ≡ k = cc in rw (← one) (no-line-fails table-lines at-start 1 l ls f)
     by-frame (some bs) f q =

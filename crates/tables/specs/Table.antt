@@ -7,6 +7,7 @@ use lib.ListN.{length, drop, replicate}
 use lib.Dec.{leb}
 use Rattle.lines.specs.Line.{choose, lines}
 use Rattle.lines.specs.Judging.{Judged, refused, Judging, judged-from}
+use Rattle.desk_lines.specs.DeskLine.{desk-frame}
 use Rattle.kinds.specs.Kind.{subterms}
 use Rattle.frames.specs.TableFrame.{frame-of, refusal, first-refusal, closes}
 use Rattle.frames.specs.declared.Frame.{Frame}
@@ -100,7 +101,7 @@ stage-behind (closed s) bs = closed s
 
 -- how a table's lines are judged
 abbrev pub table-lines : Judging Stage Sofar
-table-lines = record { whole = whole-at; number = number-met; behind = stage-behind }
+table-lines = record { reads = desk-frame; whole = whole-at; number = number-met; behind = stage-behind }
 
 -- what a table's text is: number 6 is tested first
 unfoldable pub judged : List ℕ → Judged Sofar

@@ -13,6 +13,7 @@ use frames::DEFINITION_ROOM;
 use frames::Seen;
 use frames::TERM_ROOM;
 use frames::closes;
+use line_reader::Spelling;
 use line_reader::next_line;
 use lines::Line;
 use lines::NO_LINE;
@@ -162,7 +163,7 @@ fn closed(text: &[u8], at: usize, s: Seen, line: usize) -> Checked
     ensures { λ r. ⌜ ((t : Sofar) → s ≡ seen t
         → r ≡ answer (judged-from table-lines (table.closed t) line (lines (drop at (now (text .entry)))))) ⌝ }
 {
-    let found = next_line(text, at);
+    let found = next_line(text, at, Spelling::Desk);
     match found {
         Line::End => Checked::Accepted(TableCounts {
             definitions: s.definitions,

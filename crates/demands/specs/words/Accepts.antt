@@ -4,7 +4,8 @@ use mathlib.Core.Path.{_≡_}
 use mathlib.Core.List.{List, _∷_}
 use mathlib.Core.Option.{some}
 use lib.ListN.{length, drop}
-use Rattle.lines.specs.Line.{Raw, frame, lines}
+use Rattle.lines.specs.Line.{Raw, lines}
+use Rattle.desk_lines.specs.DeskLine.{desk-frame}
 use Rattle.scripts.specs.Script.{most, asked}
 use Rattle.tables.specs.Table.{Sofar}
 use Rattle.terms.specs.Term.{definitions-of}
@@ -42,4 +43,4 @@ pub record AcceptsLine (p x : List ℕ) (t : Sofar) (v : Words) (r : Played) (v�
   pub promised : Plays p x digits at (lines (drop at text)) v r v′
   pub whole : length digits ≡ most
   pub stands : lines (drop at text) ≡ line ∷ more
-  pub accepts : line-answer (definitions-of t) s (asked (frame line)) ≡ Run.accepted e s′
+  pub accepts : line-answer (definitions-of t) s (asked (desk-frame line)) ≡ Run.accepted e s′

@@ -4,7 +4,8 @@ use Prim.Native.Nat.{ℕ, _+_}
 use mathlib.Core.Path.{_≡_}
 use mathlib.Core.List.{List, [], _∷_}
 use lib.ListN.{length}
-use Rattle.lines.specs.Line.{Raw, frame, characters}
+use Rattle.lines.specs.Line.{Raw, characters}
+use Rattle.desk_lines.specs.DeskLine.{desk-frame}
 use Rattle.scripts.specs.Script.{most, asked}
 use Rattle.terms.specs.Term.{Term}
 use Rattle.rules.specs.Run.{State}
@@ -23,12 +24,12 @@ line-told next (Run.refused n) = Refused n
 -- what the first of a script's lines comes to in a state, where they stand from `at` on
 unfoldable pub first-told : List Term → State → ℕ → List Raw → Played
 first-told ts s at [] = End
-first-told ts s at (l ∷ ls) = line-told (at + length (characters l) + 1) (line-answer ts s (asked (frame l)))
+first-told ts s at (l ∷ ls) = line-told (at + length (characters l) + 1) (line-answer ts s (asked (desk-frame l)))
 
 -- the state behind it: where there is no line, or a refused one, it is as it was
 unfoldable pub first-behind : List Term → State → List Raw → State
 first-behind ts s [] = s
-first-behind ts s (l ∷ ls) = behind s (line-answer ts s (asked (frame l)))
+first-behind ts s (l ∷ ls) = behind s (line-answer ts s (asked (desk-frame l)))
 
 -- what playing a script's first line owes a run, by an array of digits that is as long as its type says: its answer is
 -- document 01's, and the words after it hold the state behind it

@@ -54,11 +54,11 @@ returns-3 c =
     (c .before .opening-outside .ensures)
     (c .if1 .taken)
 
-cast-t12 : tie.Need-cast-t12
-cast-t12 c = search needs
-
 cast-t13 : tie.Need-cast-t13
 cast-t13 c = search needs
+
+cast-t14 : tie.Need-cast-t14
+cast-t14 c = search needs
 
 returns-4 : tie.Need-returns-4
 returns-4 c =
@@ -87,6 +87,6 @@ first-line-spec =
     returns-2
     opening-outside-requires
     returns-3
-    cast-t12
     cast-t13
+    cast-t14
     returns-4)

@@ -4,7 +4,8 @@ use mathlib.Core.List.{List, [], _∷_}
 use mathlib.Core.Option.{Option, none, some}
 use lib.ListN.{length}
 use lib.Dec.{eqb}
-use Rattle.lines.specs.Line.{choose, Raw, frame, characters}
+use Rattle.lines.specs.Line.{choose, Raw, characters}
+use Rattle.desk_lines.specs.DeskLine.{desk-frame}
 use Rattle.frames.specs.TableFrame.{frame-of, first-refusal}
 use Rattle.frames.specs.declared.Frame.{Frame}
 use Rattle.frames.specs.declared.Frame.the-variants.{Opening, Definition, Term, Closing, Wrong}
@@ -22,7 +23,7 @@ heard r next (some bs) =
 
 unfoldable pub said : (Frame → ℕ) → ℕ → List Raw → Said
 said r at [] = Stops 2
-said r at (l ∷ ls) = heard r (at + length (characters l) + 1) (frame l)
+said r at (l ∷ ls) = heard r (at + length (characters l) + 1) (desk-frame l)
 
 -- line 1 by its frame, where the next line begins at `next`: what it opens, or the number that it meets
 unfoldable pub opens : ℕ → Frame → TableOpened
@@ -39,7 +40,7 @@ opened-by next (some bs) = opens next (frame-of bs)
 -- line 1 of a text
 unfoldable pub opened : List Raw → TableOpened
 opened [] = Fails 2
-opened (l ∷ ls) = opened-by (length (characters l) + 1) (frame l)
+opened (l ∷ ls) = opened-by (length (characters l) + 1) (desk-frame l)
 
 -- the number that a line stops with
 unfoldable pub stop : Said → ℕ
