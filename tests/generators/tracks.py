@@ -250,25 +250,27 @@ def with_a_line_spoilt(rng):
     return drawn.text + tables.text_of(damage_line(rng, lines_of(drawn)))
 
 
-def with_a_character_spoilt(rng):
+def with_text_spoilt(rng, damage):
+    """A track whose text is spoilt, behind its table."""
     drawn = some_track(rng)
-    return drawn.text + damage_character(rng, graph_text(drawn.graph))
+    return drawn.text + damage(rng, graph_text(drawn.graph))
+
+
+def with_a_character_spoilt(rng):
+    return with_text_spoilt(rng, damage_character)
 
 
 def with_foreign_characters(rng):
-    drawn = some_track(rng)
-    return drawn.text + damage_by_foreign(rng, graph_text(drawn.graph))
+    return with_text_spoilt(rng, damage_by_foreign)
 
 
 def of_another_spelling(rng):
     """A track with capitals, CR LF or both, which no saved track has."""
-    drawn = some_track(rng)
-    return drawn.text + respelt(rng, graph_text(drawn.graph))
+    return with_text_spoilt(rng, respelt)
 
 
 def with_returns_out_of_place(rng):
-    drawn = some_track(rng)
-    return drawn.text + damage_by_returns(rng, graph_text(drawn.graph))
+    return with_text_spoilt(rng, damage_by_returns)
 
 
 def of_a_respelt_table(rng):
