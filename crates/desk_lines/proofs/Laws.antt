@@ -12,8 +12,8 @@ use borrow.Author.Tests.{eqb-true}
 use Rattle.lines.specs.Line.{Raw, full, open-ended, lines, bytes, frame, characters, LF, seen, answer-of}
 use Rattle.lines.specs.code.Characters.{part}
 use Rattle.lines.specs.declared.Line.the-variants.{Found}
-use Rattle.lines.proofs.Laws.{lines-first, long, part-is, rest-behind, bytes-length}
-use Rattle.desk_lines.specs.DeskLine.{CR, small, without-CR, strict, desk-frame, desk-answer}
+use Rattle.lines.proofs.Laws.{lines-first, long, part-is, rest-behind, found-first, bytes-length}
+use Rattle.desk_lines.specs.DeskLine.{CR, small, without-CR, strict, desk-frame, desk-form, desk-answer}
 use Rattle.desk_lines.proofs.Ends.{Return, no-return, one-return}
 
 -- a line's characters are those without its CR, and what is left of them
@@ -149,9 +149,6 @@ found-line s at e n (full cs) ls q h = go (frame (full spelled)) refl h
         }
 
 pub desk-line : (s : List ℕ) (at e n : ℕ) → desk-answer at (lines (drop at s)) ≡ Found e n → DeskLine s at e n
-unfolding answer-of
-desk-line s at e n h = go (lines (drop at s)) refl h
-  where
-    go : (ls : List Raw) → lines (drop at s) ≡ ls → desk-answer at ls ≡ Found e n → DeskLine s at e n
-    go [] q h = let z : _≡_ {A = ℕ} 0 1 = cc in absurd (omega arith)
-    go (l ∷ ls) q h = found-line s at e n l ls q h
+desk-line s at e n h =
+    let r = found-first desk-form s at e n h in
+    found-line s at e n (r .0) (r .1) (r .2) (r .3)

@@ -14,7 +14,7 @@ use lib.Dec.{eqb}
 use lib.Seq.{drop-cons, drop-append-seam, drop-append-add, take-append-seam, drop-drop, drop-length, take-nil}
 use borrow.Author.Tests.{le-leb, lt-leb, eqb-true, ne-eqb}
 use Rattle.lines.specs.Line.{choose, digit, Raw, full, open-ended, before, lines, bytes, frame}
-use Rattle.lines.specs.Line.{characters, LF, seen, Form, answer-of, answer}
+use Rattle.lines.specs.Line.{characters, LF, seen, Form, strict-form, answer-of, answer}
 use Rattle.lines.specs.code.Characters.{run, part}
 use Rattle.lines.specs.declared.Line.{Line}
 use Rattle.lines.specs.declared.Line.the-variants.{Found, NoLine, End}
@@ -205,15 +205,7 @@ found-line s at e n (full (c ∷ cs)) ls q h = go (bytes (c ∷ cs)) refl h
           within = omega arith;
         }
 
-pub is-line : (s : List ℕ) (at e n : ℕ) → answer at (lines (drop at s)) ≡ Found e n → IsLine s at e n
-unfolding answer-of
-is-line s at e n h = go (lines (drop at s)) refl h
-  where
-    go : (ls : List Raw) → lines (drop at s) ≡ ls → answer at ls ≡ Found e n → IsLine s at e n
-    go [] q h = let z : _≡_ {A = ℕ} 0 1 = cc in absurd (omega arith)
-    go (l ∷ ls) q h = found-line s at e n l ls q h
-
--- no line, or none left, of lines of any form
+-- what an answer says of the first of a text's lines, whatever their form: that it is found, that it is no line, or that none is left
 pub record NotALine (f : Form) (s : List ℕ) (at : ℕ) : Type 0 where
   pub line : Raw
   pub others : List Raw
@@ -221,6 +213,16 @@ pub record NotALine (f : Form) (s : List ℕ) (at : ℕ) : Type 0 where
   pub broken : f .reads line ≡ none
 
 module _ (f : Form) (s : List ℕ) (at : ℕ) where
+  pub found-first : (e n : ℕ) → answer-of f at (lines (drop at s)) ≡ Found e n
+      → (l : Raw) × (ls : List Raw) × (lines (drop at s) ≡ l ∷ ls) × (answer-of f at (l ∷ ls) ≡ Found e n)
+  unfolding answer-of
+  found-first e n h = go (lines (drop at s)) refl h
+    where
+      go : (ls : List Raw) → lines (drop at s) ≡ ls → answer-of f at ls ≡ Found e n
+          → (l : Raw) × (more : List Raw) × (lines (drop at s) ≡ l ∷ more) × (answer-of f at (l ∷ more) ≡ Found e n)
+      go [] q h = let z : _≡_ {A = ℕ} 0 1 = cc in absurd (omega arith)
+      go (l ∷ ls) q h = (l, ls, q, h)
+
   pub not-a-line : answer-of f at (lines (drop at s)) ≡ NoLine → NotALine f s at
   unfolding answer-of seen
   not-a-line h = go (lines (drop at s)) refl h
@@ -246,6 +248,11 @@ module _ (f : Form) (s : List ℕ) (at : ℕ) where
       go : (ls : List Raw) → lines (drop at s) ≡ ls → answer-of f at ls ≡ End → ls ≡ []
       go [] q h = refl
       go (l ∷ ls) q h = absurd (not-end _ _ (f .reads l) h)
+
+pub is-line : (s : List ℕ) (at e n : ℕ) → answer at (lines (drop at s)) ≡ Found e n → IsLine s at e n
+is-line s at e n h =
+    let r = found-first strict-form s at e n h in
+    found-line s at e n (r .0) (r .1) (r .2) (r .3)
 
 -- a line by another variant's tag is not found
 pub not-found : (l : Line) → (tagOf (declared enum) l ≡ 1) ⊎ (tagOf (declared enum) l ≡ 2) → (e n : ℕ)
