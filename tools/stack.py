@@ -43,6 +43,7 @@ RELOCATION = re.compile(r"^\s+[0-9a-f]+:\s+R_X86_64_(?:PLT32|PC32)\s+(?:\.text\.
 TARGET = re.compile(r"^(?:0x)?([0-9a-f]+) <(.+?)(\+0x[0-9a-f]+)?>$")
 NUMBER_TO = re.compile(r"^\$(-?(?:0x)?[0-9a-f]+),\s*(%\w+)$")
 INTO_STACK_POINTER = re.compile(r",\s*%rsp$")
+STACK_POINTER_MOVED = re.compile(r"^(-?(?:0x)?[0-9a-f]+)\(%rsp\),\s*%rsp$")
 BELOW_STACK_POINTER = re.compile(r"-(0x[0-9a-f]+|\d+)\(%rsp")
 PADDING = re.compile(r"(nop[wl]?|data16|cs|int3)\s|xchg %ax,\s*%ax")
 PROBES = ("mov", "sub", "sub", "mov", "cmp", "jne")  # of a large frame, which is taken a page after the other
@@ -106,6 +107,9 @@ def lowered(one):
     number = number_to(one, "%rsp")
     if number is not None and one.operation in ("sub", "add"):
         return number if one.operation == "sub" else -number
+    moved = STACK_POINTER_MOVED.match(one.operands)
+    if moved and one.operation == "lea":
+        return -int(moved[1], 0)
     if INTO_STACK_POINTER.search(one.operands) and one.operation not in ("cmp", "test"):
         raise Unknown(f"{one.operation} {one.operands}")
     return 0

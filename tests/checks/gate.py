@@ -4,8 +4,8 @@
 
 It holds the layout of the sources and runs the unit tests, as many modules at a time as there are processors; then
 `rt ci`, once, which proves every crate from nothing and builds target/bin, two crates or edits at a time for every
-processor, or as many as RT_JOBS says, and with its temporary files in memory where there is room, or where TMPDIR says; and then the kept cases and the comparisons on
-what that built. All output is shown as it comes, but for the last line of `rt ci`, 'N passed, 0 failed': that is held
+processor, or as many as RT_JOBS says, and with its temporary files in memory where there is room, or where TMPDIR says; and then the kept cases, what C and
+Rust hosts link, the benchmarks' opponent, and the comparisons on what that built. All output is shown as it comes, but for the last line of `rt ci`, 'N passed, 0 failed': that is held
 back until everything has passed, and stands last, behind the seconds that each part took. The first command that fails
 ends the run with status 1, and the last line tells which it was. An interrupt ends the command that is under way.
 """
@@ -53,6 +53,7 @@ FIRST = Part(
 )
 ON_WHAT_WAS_BUILT = (
     Part("cases", (("python3", "tests/checks/cases.py"),)),
+    Part("hosts", (("python3", "tests/checks/hosts.py"), ("python3", "tests/checks/opponent.py"))),
     Part(
         "comparisons",
         (

@@ -25,6 +25,8 @@ COMMANDS = (  # words that need no built program; standard input is empty
     "tests/checks/cases.py --help",
     "tests/checks/differential.py --help",
     "tests/checks/gate.py --help",
+    "tests/checks/hosts.py --help",
+    "tests/checks/opponent.py --help",
     "tests/checks/units.py --help",
 )
 PATH = re.compile(r"(?<![\w/])(?:tests|tools)/[\w/.-]*\w")

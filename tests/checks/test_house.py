@@ -220,11 +220,24 @@ def unnamed_doors(root):
             yield f"{whole} ({one.file}:{one.line})"
 
 
+def called_with_parts(root, one):
+    """Of a function that takes a block, the crate and the name of the one that it hands the block's parts on to."""
+    text = sources.text_of(root, one.file)
+    blocks = "|".join(re.findall(r"^pub struct (\w+) ", text, re.MULTILINE)) or "(?!)"
+    takes = rf'^pub extern "C" fn {one.name}\([^)]*&(?:mut )?(?:{blocks})\b'
+    calls = re.search(rf"{takes}.*?^\{{\n    (\w+)\(", text, re.MULTILINE | re.DOTALL)
+    return calls and re.search(rf"^use (\w+)::({calls[1]});", text, re.MULTILINE).groups()
+
+
 def unsettled_functions(root):
-    """Functions that other crates can call, and of which no law says that their promise settles the outcome."""
+    """Functions that other crates can call, and of which no law says that their promise settles the outcome.
+
+    Of one that takes a block the check reads off no plain fact; it promises what the function over the block's parts does.
+    """
     laws = "\n".join(sources.text_of(root, file) for file in sources.files(root, "outcomes/proofs/*.antt"))
     for one in exported_functions(root):
-        law = f"{one.crate}-{one.name}-settled".replace("_", "-")
+        crate, name = called_with_parts(root, one) or (one.crate, one.name)
+        law = f"{crate}-{name}-settled".replace("_", "-")
         if not re.search(rf"^pub {re.escape(law)} : Settles\s", laws, re.MULTILINE):
             yield f"{one.crate}::{one.name}: no law {law}"
 

@@ -130,6 +130,10 @@ class Frames(unittest.TestCase):
         self.assertEqual(deepest(code("f", "add $0xffffffffffffff80,%rsp", "ret"), "f"), 128)
         self.assertEqual(deepest(code("f", "addq $-128, %rsp", "retq"), "f"), 128)
 
+    def test_a_stack_pointer_moved_by_lea(self):
+        self.assertEqual(deepest(code("f", "push %rax", "push %rax", "lea 0x10(%rsp),%rsp", "push %rbx", "ret"), "f"), 16)
+        self.assertEqual(deepest(code("f", "leaq -24(%rsp), %rsp", "retq"), "f"), 24)
+
 
 class Unknowns(unittest.TestCase):
     def refused(self, listing, name="f"):

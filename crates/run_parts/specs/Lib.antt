@@ -1,0 +1,2 @@
+-- A run's block by its parts. Mirrors of code: `code`.
+pub mod code

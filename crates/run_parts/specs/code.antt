@@ -1,0 +1,2 @@
+-- Mirrors of code: `RunTold`, what the functions come to.
+pub mod RunTold

@@ -1,0 +1,2 @@
+-- Mirrors of code: `TableTold`, what the functions come to.
+pub mod TableTold

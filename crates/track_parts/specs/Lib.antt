@@ -1,0 +1,2 @@
+-- Tracks by the parts of blocks. Mirrors of code: `code`.
+pub mod code

@@ -1,0 +1,2 @@
+-- Mirrors of code: `TrackTold`, what the functions come to.
+pub mod TrackTold
