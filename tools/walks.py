@@ -607,11 +607,12 @@ LIBRARY = {
     "denote.Triple.Entry": ["Args"],
     "denote.Triple.Spec": ["tripleOf"],
     "denote.Triple.Statement": ["Triple"],
+    "Rattle.line_reader.proofs.Handing": ["hands-on"],
 }
 OWN = {
     "Handing": [
         "Hand", "Entry", "Return", "Walked", "Before", "hands", "After", "promised", "both-said", "lends", "takes-whole",
-        "takes", "passes", "makes-room", "all-go", "spelled", "hands-on",
+        "takes", "passes", "makes-room", "all-go", "spelled",
     ],
     "Lending": [
         "_▸_", "unique", "shared", "stays", "Loan", "Lends", "Shows", "left", "field", "Lent", "Shown",

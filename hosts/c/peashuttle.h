@@ -15,8 +15,7 @@
    written must not overlap anything else that is lent in the same call.
 
    The fields of a block are the library's own. Where something else has written into a block that was filled, every function
-   still ends, and touches nothing but what it is lent; but what it answers means nothing.
-   There peashuttle_offers and peashuttle_status may take longer than anyone waits.
+   still ends, within milliseconds, and touches nothing but what it is lent; but what it answers means nothing.
 
    Every function but peashuttle_list answers with a number:
 
@@ -31,8 +30,8 @@
        peashuttle_list      2,078,160
        peashuttle_play      1,574,096
        peashuttle_step      1,573,952
-       peashuttle_offers      186,768
-       peashuttle_status      186,768
+       peashuttle_offers      187,824
+       peashuttle_status      187,824
        peashuttle_check        12,848
        peashuttle_save            768
        peashuttle_write           480

@@ -668,13 +668,23 @@ static uint8_t lot(void)
     return (uint8_t)(lots >> 24);
 }
 
-/* Fills memory with one byte, or by lot, or by lot with numbers that are mostly small. */
+/* Words by which every reference has sides that lead to one reference, and by which every second subterm is one term: whoever
+   goes down both sides, or both subterms, as far as they lead comes to no end. */
+static const uint16_t leading_back[2][4] = {{1, 1, 1, 1}, {6, 0, 6, 6}};
+
+#define LEADING_BACK 258
+
+/* Fills memory with one byte, or by lot, or by lot with numbers that are mostly small, or with words that lead back. */
 static void fill(void *memory, size_t bytes, int how)
 {
     uint8_t *at = memory;
     size_t each;
     for (each = 0; each < bytes; each++) {
-        at[each] = how < 256 ? (uint8_t)how : how == 256 || each % 2 == 0 ? lot() : (uint8_t)(lot() < 32);
+        if (how >= LEADING_BACK) {
+            at[each] = each % 2 == 0 ? (uint8_t)leading_back[how - LEADING_BACK][each / 2 % 4] : 0;
+        } else {
+            at[each] = how < 256 ? (uint8_t)how : how == 256 || each % 2 == 0 ? lot() : (uint8_t)(lot() < 32);
+        }
     }
 }
 
@@ -711,7 +721,7 @@ static void check_answers(const blocks *b)
 
 static void test_garbage(void)
 {
-    static const int fills[] = {0x00, 0x02, 0x7f, 0xff, 256, 256, 256, 257, 257, 257};
+    static const int fills[] = {0x00, 0x02, 0x7f, 0xff, 256, 256, 256, 257, 257, 257, LEADING_BACK, LEADING_BACK + 1};
     size_t each;
     subject = "blocks of garbage behind the right stamps";
     for (each = 0; each < sizeof fills / sizeof fills[0]; each++) {
@@ -827,6 +837,15 @@ static void fill_chain(peashuttle_run *run, int sides)
     }
 }
 
+/* Each of them has a cell less than the one around it. */
+static void tell_cells(peashuttle_run *run)
+{
+    size_t each;
+    for (each = 1; each < PEASHUTTLE_DIGITS; each++) {
+        run->nodes[8 * each + 6] = (uint16_t)(PEASHUTTLE_CELLS - each);
+    }
+}
+
 static void *go_deeper(void *unused)
 {
     static uint8_t address[PEASHUTTLE_DIGITS];
@@ -835,7 +854,9 @@ static void *go_deeper(void *unused)
     int digit;
     fill_table(&b, LOOSE);
     fill_chain(b.run, 1);
+    tell_cells(b.run);
     CHECK(peashuttle_status(b.run, b.table) == PEASHUTTLE_LIVE);
+    fill_chain(b.run, 1);
     memset(address, 1, sizeof address);
     CHECK(peashuttle_step(b.run, b.table, address, sizeof address) == PEASHUTTLE_EVENT + 0);
     for (digit = 1; digit <= 4; digit++) {

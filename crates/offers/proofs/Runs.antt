@@ -24,7 +24,7 @@ module _ (l : Layout) (p x w : List ℕ) (low : Low l) where
   run-offers n P (starts z e) = rw (z, e)
   run-offers n P (stands h m) =
       let above = beyond-bound l p x w P n 0 [] h in
-      rw (ne-eqb n 0 (λ z. omega arith)) (offers-told l p x w low P n 0 0 cell-room [] h m)
+      rw (ne-eqb n 0 (λ z. omega arith)) (offers-told l p x w low P n 0 0 cell-room cell-room [] h m (omega arith))
 
   pub run-ended : (n : ℕ) (P : Process) → Controls l p x w n P → ended w n ≡ at-Ω P
   unfolding at-Ω

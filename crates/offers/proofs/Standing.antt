@@ -1,8 +1,8 @@
 -- What is told at a reference is what the control that stands there offers, with ✓ as τ where sequences are
--- around it: by induction on the control along the words that hold it, each cell taking at most one level. An
--- untouched term goes by its plan; of a choice or a parallel each side goes on, stepped or not. Assumes
--- nothing.
-use Prim.Native.Nat.{ℕ, suc, _-_, _≤_, _<_}
+-- around it: by induction on the control along the words that hold it, which tell each side's cells, so that none
+-- lacks any. An untouched term goes by its plan; of a choice or a parallel each side goes on, stepped or not.
+-- Assumes nothing.
+use Prim.Native.Nat.{ℕ, suc, _+_, _-_, _≤_, _<_}
 use mathlib.Core.Path.{_≡_, refl, ap, sym, _∙_}
 use mathlib.Core.Bool.{Bool, true, false, _&&_, _||_, not}
 use mathlib.Core.List.{List, [], _∷_}
@@ -22,12 +22,13 @@ use Rattle.rules.specs.Offers.{offers-τ, offers-✓, offers-event, plain-τ}
 use Rattle.plans.specs.words.Plan.{Layout, kind, second, around}
 use Rattle.control.specs.words.Control.{state, term, frame, first, second-side, at-end, inside, split-kind}
 use Rattle.control.specs.words.Control.{split-set, Around, Untouched, Rests, Splits, HoldsControl}
+use Rattle.control.specs.words.Control.{first-cells, second-cells}
 use Rattle.offering.specs.code.Offering.{Offer, unseen, settled, combined}
 use Rattle.offers.specs.code.Following.{of-term, levels, followed, bound, ended, at}
 use Rattle.offers.specs.words.Told.{offer-of, Low}
 use Rattle.offers.proofs.Returns.{one-less, first-in, ended-not, ended-state, followed-there}
 use Rattle.offers.proofs.Returns.{followed-beyond, at-side, at-more, state-still, state-resting}
-use Rattle.offers.proofs.Returns.{state-entered}
+use Rattle.offers.proofs.Returns.{state-entered, fits-is}
 use Rattle.offers.proofs.Untouched.{in-plan, no-Ω, untouched-told}
 
 -- whether there are sequences around
@@ -163,106 +164,123 @@ module _ (l : Layout) (p x w : List ℕ) where
       sym (ended-state w n (λ z. omega arith)) ∙ end-told P n b ks h
 
   module _ (low : Low l) where
-    untouched-offers : (i o : ℕ) (P : Process) → Untouched l p x w i o P → of-term levels p x i ≡ offer-of P
+    untouched-offers : (i o : ℕ) (P : Process) → Untouched l p x w i o P
+        → of-term levels p x i term-room ≡ offer-of P
     untouched-offers i o P h =
         untouched-told l p x low (h .tree) (l .place i) i o (h .planned) ∙ sym (ap offer-of (h .is))
 
+    -- told with f levels, where so many cells are left
+    abbrev Tells : ℕ → ℕ → ℕ → ℕ → ℕ → Offer → Type 0
+    Tells f left n t b o = at f p x w left n t b ≡ o
+
     -- a term that no step has touched
-    rests-told : (P : Process) (n t b f : ℕ) (ks : List ℕ) → Rests l p x w n b ks P → 0 < f
-        → at f p x w n t b ≡ settled (nested ks) (offer-of P)
-    rests-told P n t b f ks h m =
+    rests-told : (P : Process) (n t b left f : ℕ) (ks : List ℕ) → Rests l p x w n b ks P → 0 < left → left ≤ f
+        → Tells f left n t b (settled (nested ks) (offer-of P))
+    rests-told P n t b left f ks h any m =
         let more = one-less f (λ z. omega arith) in
         let here : n ≡ 0 → ⊥ = λ z. omega (arith, h .stands .within) in
         rw (
-          at-more p x w n t b f (f - 1) (term w n) more here refl,
+          at-more p x w left n t b f (f - 1) more (λ z. omega arith) (term w n) here refl,
           followed-told p w n (term w n) b ks (h .stands .chain),
           untouched-offers (term w n) _ P (h .untouched-there),
         )
-        (sym (state-resting (state w n) (nested ks) (offer-of P) _ (h .rests)))
+        (sym (state-resting (state w n) _ (nested ks) (offer-of P) _ (h .rests)))
 
     -- Ω and ⊥
-    still-told : (n t b f : ℕ) (ks : List ℕ) → b < n → 0 < f → 1 < state w n
-        → at f p x w n t b ≡ settled (nested ks) (unseen false false)
-    still-told n t b f ks above m h =
+    still-told : (n t b left f : ℕ) (ks : List ℕ) → b < n → 0 < left → left ≤ f → 1 < state w n
+        → Tells f left n t b (settled (nested ks) (unseen false false))
+    still-told n t b left f ks above any m h =
         let more = one-less f (λ z. omega arith) in
         let here : n ≡ 0 → ⊥ = λ z. omega arith in
-        at-more p x w n t b f (f - 1) (term w n) more here refl
-        ∙ sym (state-still (state w n) _ _ _ h) ∙ settled-nothing (nested ks)
+        at-more p x w left n t b f (f - 1) more (λ z. omega arith) (term w n) here refl
+        ∙ sym (state-still (state w n) _ _ _ _ h) ∙ settled-nothing (nested ks)
 
     -- a side at reference i, told by term t where it has not stepped: it offers what P does, and has ended
     -- where P has
-    abbrev Side : ℕ → ℕ → ℕ → ℕ → Process → Type 0
-    Side f i t c P = (at f p x w i t c ≡ offer-of P) × (ended w i ≡ at-Ω P)
+    abbrev Side : ℕ → ℕ → ℕ → ℕ → ℕ → Process → Type 0
+    Side f left i t c P = Tells f left i t c (offer-of P) × (ended w i ≡ at-Ω P)
 
-    bare-side : (P : Process) (f i t c : ℕ) → 0 < f → i ≡ 0 → Untouched l p x w t 0 P → Side f i t c P
-    bare-side P f i t c m e h =
+    bare-side : (P : Process) (f left i t c : ℕ) → left ≡ cells P → left ≤ f → i ≡ 0
+        → Untouched l p x w t 0 P → Side f left i t c P
+    bare-side P f left i t c has m e h =
+        let any = some-cells P in
         let more = one-less f (λ z. omega arith) in (
-          sym (at-side p x w i t c f (f - 1) (offer-of P) more e (sym (untouched-offers t 0 P h))),
+          sym (at-side p x w left i t c f (f - 1) more (λ z. omega arith) (offer-of P) e
+              (sym (untouched-offers t 0 P h))),
           sym (ended-not w i e) ∙ rw (h .is) (sym (no-Ω (l .place t) (h .tree))),
         )
 
-    -- P's offers are told wherever it stands, in at least as many levels as it has cells
+    -- P's offers are told wherever it stands, where no fewer cells are left than it has
     abbrev Told : Process → Type 0
-    Told P = (n t b f : ℕ) (ks : List ℕ) → HoldsControl l p x w n b P ks → cells P ≤ f
-        → at f p x w n t b ≡ settled (nested ks) (offer-of P)
+    Told P = (n t b left f : ℕ) (ks : List ℕ) → HoldsControl l p x w n b P ks → cells P ≤ left → left ≤ f
+        → Tells f left n t b (settled (nested ks) (offer-of P))
 
-    stepped-side : (P : Process) → Told P → (f i j t c : ℕ) → cells P ≤ f → i ≡ j → HoldsControl l p x w j c P []
-        → Side f i t c P
+    stepped-side : (P : Process) → Told P → (f left i j t c : ℕ) → left ≡ cells P → left ≤ f → i ≡ j
+        → HoldsControl l p x w j c P [] → Side f left i t c P
     unfolding nested settled
-    stepped-side P told f i j t c m e h = rw e (told j t c f [] h m, ended-told P j c [] h)
+    stepped-side P told f left i j t c has m e h =
+        rw e (told j t c left f [] h (omega arith) m, ended-told P j c [] h)
 
     -- an entered choice or parallel, from its sides
-    split-told : (P Q : Process) (n t b f g : ℕ) (ks : List ℕ) (v : Place) (k : Split) (i j : Option ℕ)
-        → Splits l p x w n b ks v k P Q → f ≡ suc g
-        → Side g (first w n) (suc (term w n)) (inside p k (term w n) n (frame w n)) P
-        → Side g (second-side w n) (second p (term w n)) (inside p k (term w n) n (frame w n)) Q
-        → at f p x w n t b ≡ settled (nested ks) (offer-of (split v k i j P Q))
-    split-told P Q n t b f g ks v k i j h more left right =
+    split-told : (P Q : Process) (n t b left f g : ℕ) (ks : List ℕ) (v : Place) (k : Split) (i j : Option ℕ)
+        → Splits l p x w n b ks v k P Q → cells P + cells Q < left → f ≡ suc g
+        → Side g (first-cells w n) (first w n) (suc (term w n)) (inside p k (term w n) n (frame w n)) P
+        → Side g (second-cells w n) (second-side w n) (second p (term w n)) (inside p k (term w n) n (frame w n)) Q
+        → Tells f left n t b (settled (nested ks) (offer-of (split v k i j P Q)))
+    split-told P Q n t b left f g ks v k i j h few more one two =
         let d = term w n in
         let here : n ≡ 0 → ⊥ = λ z. omega (arith, h .stands .within) in
         let there : d < term-room = in-plan p d (omega (arith, h .kind-is, some-split k)) in
         let set-is : look term-room x d ≡ split-set k = sym (look-in term-room x d there) ∙ h .set-is in
+        let fit = fits-is (first-cells w n) (second-cells w n) left (omega (arith, h .left-cells, h .right-cells)) in
         rw (
-          at-more p x w n t b f g d more here refl,
+          at-more p x w left n t b f g more (λ z. omega arith) d here refl,
           followed-told p w n d b ks (h .stands .chain),
           bound-told p w n d k (h .kind-is),
           h .kind-is,
           set-is,
           ← first-in d there,
           add-one,
-          left .0,
-          right .0,
-          left .1,
-          right .1,
+          one .0,
+          two .0,
+          one .1,
+          two .1,
           sides-told v k i j P Q,
         )
-        (sym (state-entered (state w n) (nested ks) _ _ (omega (arith, h .enters))
-        (λ z. omega (arith, h .enters))))
+        (sym (state-entered (state w n) _ (nested ks) _ _ (omega (arith, h .enters))
+        (λ z. omega (arith, h .enters)) (ap not fit)))
 
     pub offers-told : (P : Process) → Told P
     unfolding cells
-    offers-told (leaf v q) n t b f ks h m = rests-told (leaf v q) n t b f ks h (omega arith)
-    offers-told (prefix v e P) n t b f ks h m = rests-told (prefix v e P) n t b f ks h (omega arith)
-    offers-told (internal v P Q) n t b f ks h m = rests-told (internal v P Q) n t b f ks h (omega arith)
-    offers-told (split v k none none P Q) n t b f ks h m =
-        rests-told (split v k none none P Q) n t b f ks h (omega arith)
-    offers-told (split v k none (some j) P Q) n t b f ks h m =
-        split-told P Q n t b f (f - 1) ks v k none (some j) (h .0) (one-less f (λ z. omega arith))
-        (bare-side P (f - 1) (first w n) _ _ (omega (arith, some-cells Q)) (h .1) (h .3))
-        (stepped-side Q (offers-told Q) (f - 1) (second-side w n) j _ _ (omega arith) (h .2) (h .4))
-    offers-told (split v k (some i) none P Q) n t b f ks h m =
-        split-told P Q n t b f (f - 1) ks v k (some i) none (h .0) (one-less f (λ z. omega arith))
-        (stepped-side P (offers-told P) (f - 1) (first w n) i _ _ (omega arith) (h .1) (h .3))
-        (bare-side Q (f - 1) (second-side w n) _ _ (omega (arith, some-cells P)) (h .2) (h .4))
-    offers-told (split v k (some i) (some j) P Q) n t b f ks h m =
-        split-told P Q n t b f (f - 1) ks v k (some i) (some j) (h .0) (one-less f (λ z. omega arith))
-        (stepped-side P (offers-told P) (f - 1) (first w n) i _ _ (omega arith) (h .1) (h .3))
-        (stepped-side Q (offers-told Q) (f - 1) (second-side w n) j _ _ (omega arith) (h .2) (h .4))
-    offers-told (sequence v false P Q) n t b f ks h m =
-        rests-told (sequence v false P Q) n t b f ks h (omega arith)
-    offers-told (sequence v true P Q) n t b f ks h m =
-        offers-told P n t b f (h .0 ∷ ks) (h .2) (omega arith) ∙ within-sequence v P Q (h .0) ks
-    offers-told Ω n t b f ks h m =
-        still-told n t b f ks (h .0) (omega arith) (omega (arith, h .1)) ∙ nothing-Ω ks
-    offers-told ⊥′ n t b f ks h m =
-        still-told n t b f ks (h .0 .within) (omega arith) (omega (arith, h .1)) ∙ nothing-⊥ ks
+    offers-told (leaf v q) n t b left f ks h m r = rests-told (leaf v q) n t b left f ks h (omega arith) r
+    offers-told (prefix v e P) n t b left f ks h m r = rests-told (prefix v e P) n t b left f ks h (omega arith) r
+    offers-told (internal v P Q) n t b left f ks h m r =
+        rests-told (internal v P Q) n t b left f ks h (omega arith) r
+    offers-told (split v k none none P Q) n t b left f ks h m r =
+        rests-told (split v k none none P Q) n t b left f ks h (omega arith) r
+    offers-told (split v k none (some j) P Q) n t b left f ks h m r =
+        let one = h .0 .left-cells in
+        let two = h .0 .right-cells in
+        split-told P Q n t b left f (f - 1) ks v k none (some j) (h .0) (omega arith) (one-less f (λ z. omega arith))
+        (bare-side P (f - 1) _ (first w n) _ _ one (omega arith) (h .1) (h .3))
+        (stepped-side Q (offers-told Q) (f - 1) _ (second-side w n) j _ _ two (omega arith) (h .2) (h .4))
+    offers-told (split v k (some i) none P Q) n t b left f ks h m r =
+        let one = h .0 .left-cells in
+        let two = h .0 .right-cells in
+        split-told P Q n t b left f (f - 1) ks v k (some i) none (h .0) (omega arith) (one-less f (λ z. omega arith))
+        (stepped-side P (offers-told P) (f - 1) _ (first w n) i _ _ one (omega arith) (h .1) (h .3))
+        (bare-side Q (f - 1) _ (second-side w n) _ _ two (omega arith) (h .2) (h .4))
+    offers-told (split v k (some i) (some j) P Q) n t b left f ks h m r =
+        let one = h .0 .left-cells in
+        let two = h .0 .right-cells in
+        split-told P Q n t b left f (f - 1) ks v k (some i) (some j) (h .0) (omega arith) (one-less f (λ z. omega arith))
+        (stepped-side P (offers-told P) (f - 1) _ (first w n) i _ _ one (omega arith) (h .1) (h .3))
+        (stepped-side Q (offers-told Q) (f - 1) _ (second-side w n) j _ _ two (omega arith) (h .2) (h .4))
+    offers-told (sequence v false P Q) n t b left f ks h m r =
+        rests-told (sequence v false P Q) n t b left f ks h (omega arith) r
+    offers-told (sequence v true P Q) n t b left f ks h m r =
+        offers-told P n t b left f (h .0 ∷ ks) (h .2) (omega arith) r ∙ within-sequence v P Q (h .0) ks
+    offers-told Ω n t b left f ks h m r =
+        still-told n t b left f ks (h .0) (omega arith) r (omega (arith, h .1)) ∙ nothing-Ω ks
+    offers-told ⊥′ n t b left f ks h m r =
+        still-told n t b left f ks (h .0 .within) (omega arith) r (omega (arith, h .1)) ∙ nothing-⊥ ks

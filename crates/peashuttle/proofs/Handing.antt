@@ -2,7 +2,8 @@
 -- What is owned at the entry, what is passed, what comes back and what is promised are each a list of items (`owned`,
 -- `tokens`, `lasting`), so that a function has to show but two things: how the one list becomes the next before the
 -- call (`Before`) and after it (`After`). `lends` is the call, the laws on statements are the steps before and behind
--- it, and `hands-on` takes such a walk to the function's statement. Nothing here is about the crate. Assumes nothing.
+-- it; `hands-on` of `line_reader` takes such a walk to the function's statement. Nothing here is about the crate. Assumes
+-- nothing.
 use mathlib.Core.Path.{_≡_, refl}
 use Prim.Native.Nat.{ℕ, zero, suc, _+_}
 use mathlib.Core.Option as Option
@@ -15,32 +16,29 @@ use mir.Val.{Val, vptr, hasTy, WT}
 use base.Logic.{SProp, ent, sep, ex, emp, via, fst∗, snd∗, id⊢, monoL, monoR, comm∗, assoc∗, assoc′}
 use base.Fml.{Fml, Share, fsep, fat, froom, fdies, flft}
 use prog.Memory.{fieldOf}
-use prog.Model.{Model}
-use prog.Routine.{Name, Routine, Env as Table}
-use prog.Wp.{Heap, Env, Calls, Loops, WpFn, Closed, spotOf, release}
+use prog.Routine.{Name}
+use prog.Wp.{Heap, Env, Calls, Loops, WpFn, spotOf, release}
 use ghost.Atoms.{Atoms, sem}
-use contract.Lifetimes.{Lfts, Shares, AllOutlive, toks}
-use contract.Monad.{Fun, fact, factI, fact-use}
-use contract.Running.{Running, GhostRules, givenOf, tables, tablesOf}
+use contract.Lifetimes.{Lfts, Shares, toks}
+use contract.Monad.{fact, factI, fact-use}
 use types.Kit.{Given, Goal, Item, Post, Go, Seq, Step, step, aim, mean, ⋆, push, nth, put, ‵, raw, _⊛_, some, later}
 use types.Kit.{runs, lands, allocs, frees, upd}
 use types.Kit.{_$_, _∵_, !, qed, updating, move, drop, use0, use1, use2, use3, split, join, fsplit, fjoin, frame}
 use types.Kit.{pick, await, now, show, done}
 use types.Run.{Opds, look, init, stop, hop, fld, from, load, addr, and-then, assigns, alloc0, alloc1, forget, free0}
 use types.Run.{free1}
-use sound.WpLaws.{FmC, fmOf}
+use sound.WpLaws.{FmC}
 use denote.RattleType.{RattleType, Denots, Valss, flat, owns}
-use denote.Laws.{Is, Ises, Are, Spells, Tellss, valss, shows}
+use denote.Laws.{Is, Spells, valss, shows}
 use denote.Signature.{Signature, Slot, typeAt, typesAt}
 use denote.Exit.{Exit, Last, unchanged, leaves, left}
-use denote.Steps.{nothing, peeks, said}
+use denote.Steps.{nothing, peeks}
 use denote.Triple.Statement.{Contract, Triple}
 use denote.Triple.Call.{calls-at}
 use denote.Triple.Entry.{Args, Vals, Res, alive, onEntry}
 use denote.Triple.Clauses.{Ended, Clauses, closing, Lasts, AtExit, atExit, lasts}
 use denote.Triple.End.{Kepts, Fins, lastsOf}
-use denote.Triple.Spec.{Spec, Meets, tripleOf, exits}
-use denote.Triple.Table.{entered, cited}
+use denote.Triple.Spec.{tripleOf, exits}
 
 -- ---- tokens, arguments and last values, one by one, from the last to the first
 
@@ -389,48 +387,9 @@ module _ {M : Type 1} {𝓤 : URA M} {H : Heap 𝓤} {A : Atoms 𝓤} {K : Type 
       → Opds K W Γ E (copy (place i []) ∷ xs) (v ∷ vs)
   passes t n held = and-then t (load t (from t (stop t)) (look t n held))
 
--- ---- from the walk to the statement
+-- ---- from the walk to the statement (`hands-on`, in `line_reader`)
 
-module _ (S : Signature) (sp : (κs : Lfts (S .lifetimes)) → Spells (typesAt (S .params) κs)) where
-  -- the machine values that arguments are spelled by
-  abbrev pub spelled : (κs : Lfts (S .lifetimes)) → Args S κs → Vals S κs
-  spelled κs = valss (typesAt (S .params) κs) (sp κs)
-
-  -- a run does what a contract that asks nothing says, from every entry on
-  abbrev Walk : {M : Type 1} (𝓤 : URA M) (H : Heap 𝓤) (A : Atoms 𝓤) → Spec 𝓤 S → Fun 𝓤 → Type 1
-  Walk 𝓤 H A s run =
-      (κs : Lfts (S .lifetimes)) (qs : Shares (S .lifetimes)) (b : AllOutlive (S .lifetimes) (S .outlives) κs)
-      (a : Args S κs) (g : s κs a .ghost)
-      → Are (typesAt (S .params) κs) (Ises (typesAt (S .params) κs)) a (spelled κs a)
-      → ent 𝓤 (onEntry 𝓤 H A S κs qs a (spelled κs a)) (run (flat (typesAt (S .params) κs) (spelled κs a))
-      (tripleOf 𝓤 H A S s .post ((κs, qs, b, a, spelled κs a), g)))
-
-  module _ (tl : (κs : Lfts (S .lifetimes)) → Tellss (typesAt (S .params) κs) (Ises (typesAt (S .params) κs)) (sp κs))
-      {M : Type 1} (𝓤 : URA M) (H : Heap 𝓤) where
-    -- such a run meets the contract: what the arguments own says what their machine values are
-    from-entry : (A : Atoms 𝓤) (s : Spec 𝓤 S) (run : Fun 𝓤) → Walk 𝓤 H A s run → Meets 𝓤 H A S run s
-    from-entry A s run walk y =
-        let κs = y .0 .0 in
-        let qs = y .0 .1 in
-        let a = y .0 .3 in
-        let entry = onEntry 𝓤 H A S κs qs a (y .0 .4) in
-        via 𝓤 entry (fst∗ 𝓤 entry (s κs a .requires (y .1)))
-        (said 𝓤 H A S κs qs (sp κs) (tl κs) a
-        (λ us. run (flat (typesAt (S .params) κs) us) (tripleOf 𝓤 H A S s .post ((κs, qs, y .0 .2, a, us), y .1)))
-        (y .0 .4) (walk κs qs (y .0 .2) a (y .1)))
-
-    -- a function keeps its contract if its code does so over each table in which the one function that it calls
-    -- keeps its own
-    pub hands-on : (𝓜 : Model 𝓤 H) (𝓖 : GhostRules 𝓤 H) (𝓡 : Running 𝓤 H 𝓜) (s : Spec 𝓤 S)
-        (γ : Table) (k : Name) (e : Fn) → Closed 𝓤 H (tables 𝓤 H 𝓜 𝓡 γ .C) (tables 𝓤 H 𝓜 𝓡 γ .Λ) k e
-        → (S′ : Signature) (s′ : Spec 𝓤 S′) (k′ : Name) (r : Routine) → γ k′ ≡ r → Meets 𝓤 H (𝓖 .A) S′ (𝓡 .run r) s′
-        → ((C : Calls 𝓤 H) (Λ : Loops 𝓤 H) → FmC 𝓤 H (givenOf 𝓤 H 𝓜 𝓖 .laws) C
-        → Triple 𝓤 (C k′) (tripleOf 𝓤 H (𝓖 .A) S′ s′) → Walk 𝓤 H (𝓖 .A) s (WpFn 𝓤 H C Λ e))
-        → Meets 𝓤 H (𝓖 .A) S (𝓡 .run (γ k)) s
-    unfolding tablesOf
-    hands-on 𝓜 𝓖 𝓡 s γ k e closed S′ s′ k′ r calls met walk =
-        let t = tables 𝓤 H 𝓜 𝓡 γ in
-        let framed = fmOf 𝓤 H (givenOf 𝓤 H 𝓜 𝓖 .laws) (tablesOf 𝓤 H 𝓜 t) in
-        let known = cited 𝓤 H (tripleOf 𝓤 H (𝓖 .A) S′ s′) 𝓜 𝓡 γ k′ r calls met in
-        entered 𝓤 H (tripleOf 𝓤 H (𝓖 .A) S s) (t .C) (t .Λ) k e closed
-        (from-entry (𝓖 .A) s (WpFn 𝓤 H (t .C) (t .Λ) e) (walk (t .C) (t .Λ) framed known))
+-- the machine values that arguments are spelled by
+abbrev pub spelled : (S : Signature) → ((κs : Lfts (S .lifetimes)) → Spells (typesAt (S .params) κs))
+    → (κs : Lfts (S .lifetimes)) → Args S κs → Vals S κs
+spelled S sp κs = valss (typesAt (S .params) κs) (sp κs)

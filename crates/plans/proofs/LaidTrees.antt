@@ -276,6 +276,7 @@ module _ (ks ps xs rs : List ℕ) where
               (rw there at (sited-side l i d w (second q t u) sited))
               (rw there at (evented-side l i (second q t u) evented)) told-second
               (λ p from to. rw next at (kept p (omega arith) (omega arith)))),
+          is,
         )
 
   -- definitions one behind the other

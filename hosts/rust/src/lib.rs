@@ -32,8 +32,7 @@
 //!
 //! A block that was never filled is told by an [`Error`], and a refusal leaves table, run and track as they were. A run
 //! belongs to the table of its steps: by another one, what is answered means nothing. The same holds of a block in words that
-//! were filled, and then written by something else.
-//! There [`Run::offers`] and [`Run::status`] may take longer than anyone waits.
+//! were filled, and then written by something else; such a block, too, is answered within milliseconds.
 //!
 //! # Stack
 //!
@@ -44,7 +43,7 @@
 //! | [`list`] | 2,078,160 |
 //! | [`Run::play`] | 1,574,096 |
 //! | [`Run::step`] | 1,573,952 |
-//! | [`Run::offers`], [`Run::status`] | 186,768 |
+//! | [`Run::offers`], [`Run::status`] | 187,824 |
 //! | [`Table::check`] | 12,848 |
 //! | [`Run::save`] | 768 |
 //! | [`Track::write`] | 480 |

@@ -1,7 +1,9 @@
 -- `offers::offers` meets its contract: τ alone at the start, and else what is told at the reference; of a
 -- control that is what it offers. Assumes nothing.
 use mathlib.Core.Path.{_∙_}
+use native.Mathlib.Omega.{arith}
 use borrow.Author.Needs.{needs}
+use Rattle.rules.specs.Run.{cell-room}
 use Rattle.offers.proofs.Returns.{offered-start, offered-there}
 use Rattle.offers.proofs.Runs.{run-tells}
 use Rattle.offers.proofs.offers.Statement.{statement}
@@ -20,7 +22,7 @@ offers-at-requires c κs = search needs
 
 returns-2 : tie.Need-returns-2
 returns-2 c =
-    let told = c .offers-at .ensures ∙ offered-there _ _ _ _ (c .before .if1 .left) in
+    let told = c .offers-at .ensures cell-room (omega arith) ∙ offered-there _ _ _ _ (c .before .if1 .left) in
     (told, λ l P low is. run-tells l _ _ _ low _ P _ told is)
 
 pub offers-spec : {M : Type 1} → statement M

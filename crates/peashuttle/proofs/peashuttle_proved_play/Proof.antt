@@ -28,9 +28,10 @@ use denote.Slice.{ShrSlice, slice-vals, shr-slice-tells, shr-slice-lawful}
 use denote.Triple.Entry.{Args}
 use denote.Triple.Spec.{tripleOf}
 use denote.Triple.Statement.{Triple}
+use Rattle.line_reader.proofs.Handing.{hands-on}
 use Rattle.peashuttle.proofs.Blocks.{run-block, table-block}
 use Rattle.peashuttle.proofs.Handing.{Hand, Entry, Walked, Before, hands, After, promised, lends, takes-whole}
-use Rattle.peashuttle.proofs.Handing.{takes, passes, makes-room, all-go, spelled, hands-on}
+use Rattle.peashuttle.proofs.Handing.{takes, passes, makes-room, all-go, spelled}
 use Rattle.peashuttle.proofs.Lending.{_▸_, unique, shared, stays, Loan, Lends, Shows, left, field, Lent, Shown}
 use Rattle.peashuttle.proofs.Lending.{lend, show-part, lent-ends, shown-ends}
 use Rattle.peashuttle.proofs.RunBlock as Run

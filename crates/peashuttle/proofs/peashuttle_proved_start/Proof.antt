@@ -29,9 +29,10 @@ use denote.Steps.{only}
 use denote.Triple.Entry.{Args}
 use denote.Triple.Spec.{tripleOf}
 use denote.Triple.Statement.{Triple}
+use Rattle.line_reader.proofs.Handing.{hands-on}
 use Rattle.peashuttle.proofs.Blocks.{run-block}
 use Rattle.peashuttle.proofs.Handing.{Hand, Entry, Return, Walked, Before, hands, After, promised, lends}
-use Rattle.peashuttle.proofs.Handing.{takes, passes, makes-room, all-go, spelled, hands-on}
+use Rattle.peashuttle.proofs.Handing.{takes, passes, makes-room, all-go, spelled}
 use Rattle.peashuttle.proofs.Lending.{_▸_, unique, stays, Loan, Lends, left, field, Lent, lend, lent-ends}
 use Rattle.peashuttle.proofs.RunBlock as Run
 use Rattle.run_parts.proofs.start_parts as parts

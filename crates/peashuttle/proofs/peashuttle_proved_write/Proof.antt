@@ -30,9 +30,10 @@ use denote.Slice.{MutSlice, slice-vals, mut-slice-tells, mut-slice-lawful}
 use denote.Triple.Entry.{Args}
 use denote.Triple.Spec.{tripleOf}
 use denote.Triple.Statement.{Triple}
+use Rattle.line_reader.proofs.Handing.{hands-on}
 use Rattle.peashuttle.proofs.Blocks.{table-block, track-block}
 use Rattle.peashuttle.proofs.Handing.{Hand, Entry, Walked, Before, hands, After, promised, lends, takes-whole}
-use Rattle.peashuttle.proofs.Handing.{takes, passes, makes-room, all-go, spelled, hands-on}
+use Rattle.peashuttle.proofs.Handing.{takes, passes, makes-room, all-go, spelled}
 use Rattle.peashuttle.proofs.Lending.{_▸_, shared, stays, Loan, Shows, field, Shown, show-part, shown-ends}
 use Rattle.peashuttle.proofs.TableBlock as Table
 use Rattle.peashuttle.proofs.TrackBlock as Track

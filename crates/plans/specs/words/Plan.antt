@@ -11,7 +11,7 @@ use Rattle.lines.specs.Line.{choose}
 use Rattle.frames.specs.TableFrame.{term-room, event-room}
 use Rattle.kinds.specs.Kind as Kind
 use Rattle.terms.specs.Term.{Leaf, call, SKIP, STOP, Operator, internal, external, sequence, parallel, Term}
-use Rattle.terms.specs.Term.{leaf, prefix, binary, leaf-kind, operator-kind, operator-payload}
+use Rattle.terms.specs.Term.{leaf, prefix, binary, leaf-kind, operator-kind, operator-payload, size}
 use Rattle.places.specs.Place.{Place}
 use Rattle.rules.specs.Process.{below}
 
@@ -57,7 +57,7 @@ Leads l w i (call n) = operand w i ≡ l .root n
 Leads l w i SKIP = Unit {0}
 Leads l w i STOP = Unit {0}
 
--- a plan and sets that hold a term from number i on, inside the sequence that o tells of
+-- a plan and sets that hold a term from number i on, in preorder, inside the sequence that o tells of
 abbrev pub Planned : Layout → List ℕ → List ℕ → ℕ → ℕ → Term → Type 0
 Planned l w x i o (leaf f) = (kind w i ≡ leaf-kind f) × (around w i ≡ o) × Leads l w i f
 Planned l w x i o (prefix e t) =
@@ -68,6 +68,7 @@ Planned l w x i o (binary p t u) =
     (kind w i ≡ operator-kind p) × (around w i ≡ o) × (getD x i 0 ≡ operator-payload p)
     × (l .place (suc i) ≡ below (l .place i) 1) × (l .place (second w i) ≡ below (l .place i) 2)
     × Planned l w x (suc i) (first-around p i o) t × Planned l w x (second w i) (second-around p o) u
+    × (second w i ≡ suc i + size t)
 
 -- a plan and sets that hold the definitions of a table
 abbrev pub HoldsTable : Layout → List ℕ → List ℕ → List Term → Type 0

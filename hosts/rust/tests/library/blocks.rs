@@ -257,12 +257,19 @@ fn answered(fill: &mut dyn FnMut() -> u64, is_checked: bool) {
     assert!(lent.iter().all(Guarded::is_whole));
 }
 
+/// Words by which every reference has sides that lead to one reference, and by which every second subterm is one term:
+/// whoever goes down both sides, or both subterms, as far as they lead comes to no end.
+const LEADING_BACK: [u64; 2] = [0x0001_0001_0001_0001, 0x0006_0006_0000_0006];
+
 #[test]
 fn blocks_with_anything_in_them() {
     let mut lots = Lots(2010);
     for is_checked in [true, false] {
         for same in [0, u64::MAX, 0x0202_0202_0202_0202, 0x7f7f_7f7f_7f7f_7f7f] {
             answered(&mut || same, is_checked);
+        }
+        for leading in LEADING_BACK {
+            answered(&mut || leading, is_checked);
         }
         for _ in 0..3 {
             answered(&mut || lots.next(), is_checked);
