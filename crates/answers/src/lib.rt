@@ -2,6 +2,8 @@
 // saved text and a written track come to. A number below REFUSED tells that something was done; from REFUSED on, which
 // refusal it is. A host keeps a table, a run and a track that was read in blocks of its own; each has a stamp where it is
 // filled, and one that is not is told too.
+#![tactic(auto)]
+
 ghost use Rattle.std.specs.Prelude.{◌≡◌};
 ghost use Rattle.answers.specs.Numbers as told;
 ghost use Rattle.answers.specs.words.Blocks as blocks;

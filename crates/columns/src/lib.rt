@@ -1,4 +1,6 @@
 // The columns of a checked table: what each has at a number, 0 out of range.
+#![tactic(auto)]
+
 ghost use Rattle.std.specs.Prelude.{◌≡◌};
 ghost use Rattle.frames.specs.TableFrame.{term_room, definition_room};
 ghost use Rattle.columns.specs.words.Columns.{look};

@@ -1,6 +1,8 @@
 // The words of a run. `nodes` has eight words for each reference: the label of its node, and what control stands
 // there; `track` has the arcs and the meetings in the order made. Out of range nothing is read or written. Counts stop at
 // 65,535, which is past every room, so that a sum of them always has an answer.
+#![tactic(auto)]
+
 ghost use Rattle.std.specs.Prelude.{◌≡◌, ◌<◌, ◌+◌, ◌*◌, ◌-◌};
 ghost use Rattle.control.specs.words.Words as words;
 ghost use Rattle.control.specs.words.Sums.{capped};

@@ -1,4 +1,6 @@
 // The counters of a run, kept beside its control, and the rooms.
+#![tactic(auto)]
+
 ghost use Rattle.std.specs.Prelude.{◌≡◌, ◌<◌};
 ghost use Rattle.counting.specs.code.Counting as spec;
 

@@ -1,1 +1,2 @@
 // The customer's demands, through the doors: laws alone.
+#![tactic(auto)]

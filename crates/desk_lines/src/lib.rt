@@ -1,5 +1,7 @@
 // Lines of tables and scripts, which desks write: capitals and CR LF are taken too. It finds where the next line of such a text
 // ends; its characters are handed out as they stand. It relies on nothing but the line finder's words.
+#![tactic(auto)]
+
 ghost use Rattle.std.specs.Prelude.{◌≡◌, map, ◌+◌, ◌≤◌, length, drop, ltb};
 ghost use Rattle.lines.specs.Line.{digit, lines};
 ghost use Rattle.lines.specs.code.Characters.{run};

@@ -1,5 +1,7 @@
 // What a step writes: labels, arcs, fresh references and what stands at them, event nodes and meetings. It relies on the words
 // of a run.
+#![tactic(auto)]
+
 ghost use Rattle.std.specs.Prelude.{◌≡◌, ◌-◌};
 ghost use Rattle.control.specs.words.Words.{event_node};
 ghost use Rattle.drawing.specs.code.Drawing as spec;
@@ -13,7 +15,7 @@ use rules::{ARC_ROOM, MEETING_ROOM, NODE_ROOM};
 
 // How far a run has come: its next fresh reference, its nodes, arcs and meetings, and the event nodes of the step
 // that is being taken.
-#[derive(Drop)]
+#[derive(Clone, Copy)]
 pub struct Tally {
     pub fresh: usize,
     pub nodes: usize,

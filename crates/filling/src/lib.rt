@@ -1,5 +1,7 @@
 // A table's columns filled: a frame that meets no refusal is taken in, and the preorder walk tells, from the last term to the
 // first, which term stands behind each term and its subterms. It relies on the table by kind.
+#![tactic(auto)]
+
 ghost use Rattle.std.specs.Prelude.{◌≡◌, ◌+◌, ◌-◌, ◌<◌, ◌≤◌, length};
 ghost use Rattle.filling.specs.code.Taking.{Ready, topmost, owed, pushed, started, seen_then};
 ghost use Rattle.filling.specs.code.Taking.{waiting_then};

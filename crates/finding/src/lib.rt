@@ -1,4 +1,6 @@
 // The mark of a node by its line: its number and its place have to be a node's, and the literal is found by the line's path.
+#![tactic(auto)]
+
 ghost use Rattle.std.specs.Prelude.{◌≡◌};
 ghost use Rattle.numbers.specs.code.Numbers.{read_bytes};
 ghost use Rattle.graphs.specs.Parsed.{place_at};

@@ -1,4 +1,6 @@
 // The frames of a table: what a line's characters stand for. It relies on the bytes of a line, and on the table by kind.
+#![tactic(auto)]
+
 ghost use Rattle.std.specs.Prelude.{◌≡◌};
 ghost use Rattle.frames.specs.TableFrame as table;
 ghost use Rattle.numbers.specs.code.Numbers.{read_bytes, byte_at};
@@ -34,7 +36,7 @@ pub const DEFINITION_ROOM: usize = 64;
 pub const EVENT_ROOM: usize = 64;
 
 // A table's frame; `Wrong` stands for any bytes that are none.
-#[derive(Drop)]
+#[derive(Clone, Copy)]
 pub enum Frame {
     Opening {
         edition: u8,
@@ -52,7 +54,7 @@ pub enum Frame {
 
 // What a line is judged by: line 1's two numbers, the definitions begun, the terms so far, how many terms the
 // definition begun still lacks, and the path length of the next of them.
-#[derive(Drop)]
+#[derive(Clone, Copy)]
 pub struct Seen {
     pub definitions: usize,
     pub events: usize,

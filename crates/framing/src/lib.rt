@@ -1,5 +1,7 @@
 // Lines of a saved track put into a slice: the first line, those of nodes, arcs and meetings, and the last. It relies on the
 // places of literals and on putting bytes.
+#![tactic(auto)]
+
 ghost use Rattle.std.specs.Prelude.{◌≡◌, [], ◌∷◌, ◌++◌, map, ◌+◌, ◌*◌, ◌≤◌, length, take};
 ghost use Rattle.lines.specs.Line.{two, text, hex};
 ghost use Rattle.spelling.specs.words.Puts.{Puts, number_cursor, line_cursor, pairs_cursor};

@@ -1,4 +1,5 @@
 // Saved tracks, as graphs and as texts: definitions and laws alone.
+#![tactic(auto)]
 
 // First bytes of a saved track's frames, and its edition.
 pub const TRACK_FRAME: u8 = 0x30;

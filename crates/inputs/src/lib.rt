@@ -1,4 +1,6 @@
 // Where a table's text ends in a program's input, and its script begins.
+#![tactic(auto)]
+
 ghost use Rattle.std.specs.Prelude.{◌≡◌, replicate};
 ghost use Rattle.lines.specs.Line.{lines};
 ghost use Rattle.inputs.specs.Cut.{table_length, starts_1f};

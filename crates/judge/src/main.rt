@@ -1,6 +1,8 @@
 // The judging program: reads a table and then a script from standard input, and tells in words what the table
 // holds and where each of its literals stands, and what each line of the script asks for, or the refusal that
 // ends the work. All that it tells comes from the proved libraries; here it is only read and written.
+#![tactic(auto)]
+
 mod words;
 
 use frames::{DEFINITION_ROOM, TERM_ROOM};

@@ -1,5 +1,7 @@
 // The constant table by kind: the bytes after a term's kind, and its subterms. The table check and the preorder walk consult
 // it, and whatever follows terms downward.
+#![tactic(auto)]
+
 ghost use Rattle.std.specs.Prelude.{◌≡◌};
 ghost use Rattle.kinds.specs.Kind as Kinds;
 

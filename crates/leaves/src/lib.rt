@@ -1,5 +1,7 @@
 // The steps that look no further down: of call, prefix, internal choice, SKIP and STOP, of two ended sides, and of a sequence
 // whose left has ended. It relies on what a step writes.
+#![tactic(auto)]
+
 ghost use Rattle.std.specs.Prelude.{◌≡◌};
 ghost use Rattle.leaves.specs.code.Leaves as spec;
 
@@ -14,7 +16,7 @@ use rules::Event;
 
 // What a step of a part of control comes to: its event; the reference of what stands there now; its cells; where its
 // digits end; and how far the run has come.
-#[derive(Drop)]
+#[derive(Clone, Copy)]
 pub struct Taken {
     pub event: Event,
     pub reference: usize,

@@ -1,6 +1,8 @@
 // The line reader: a text, how its lines are spelled, and a cursor in it. It says what stands at the cursor, and hands out the
 // line's own characters as they stand in the text. It relies on the two line finders, and promises in their words. The borrow
 // checker covers no function over a struct that holds a reference: each is walked by hand, so they are few and thin.
+#![tactic(auto)]
+
 ghost use Rattle.std.specs.Prelude.{◌≡◌, drop};
 ghost use Rattle.lines.specs.Line.{lines};
 ghost use Rattle.lines.specs.code.Characters.{part};

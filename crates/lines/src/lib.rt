@@ -1,5 +1,7 @@
 // Lines of hexadecimal, strictly spelled, as a saved track has them: where the next line of a text ends, and its characters. It
 // relies on nothing; every reader of a text above stands on it.
+#![tactic(auto)]
+
 ghost use Rattle.std.specs.Prelude.{◌≡◌, ◌+◌, ◌≤◌, length, drop};
 ghost use Rattle.lines.specs.Line.{digit, lines, answer, refusal};
 ghost use Rattle.lines.specs.code.Characters.{run, part};
@@ -36,7 +38,7 @@ pub const SHAPE_BROKEN: u8 = 13;
 
 // What stands at a cursor: a line, whose characters run from the cursor up to `end`, with the next line from
 // `next` on; something that is no line; or the end of the text.
-#[derive(Drop)]
+#[derive(Clone, Copy)]
 pub enum Line {
     Found { end: usize, next: usize },
     NoLine,

@@ -1,5 +1,7 @@
 // A graph in columns is the marks of its references, as a run's nodes have them, and its arcs, as a run's track has them. Its
 // arcs are linked to the sides of their nodes: which side an arc leads to is told by the marks of its ends alone.
+#![tactic(auto)]
+
 ghost use Rattle.std.specs.Prelude.{◌≡◌, min, ◌||◌, replicate};
 ghost use Rattle.columns.specs.words.Columns.{look};
 ghost use Rattle.links.specs.words.Columns as words;
@@ -23,7 +25,7 @@ pub const SIDE_WORDS: usize = 16388;
 pub type SideWords = [u16; SIDE_WORDS];
 
 // How many nodes, arcs and meetings a graph has.
-#[derive(Drop)]
+#[derive(Clone, Copy)]
 pub struct GraphCounts {
     pub nodes: usize,
     pub arcs: usize,

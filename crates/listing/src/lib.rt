@@ -1,6 +1,8 @@
 // The tracking program's listing: from the bytes of an input to the bytes of its output. The table is judged whole, the
 // script is played line by line, and each accepted step, the status, the refusal that ended the script and the saved
 // track are put behind one another. It relies on the doors below for all that is told.
+#![tactic(auto)]
+
 ghost use Rattle.std.specs.Prelude.{◌≡◌, ◌≤◌, length};
 ghost use Rattle.std.proofs.lemmas.List.Edits.{sets as put};
 ghost use Rattle.spelling.specs.words.Puts.{Puts, line_cursor};
@@ -134,7 +136,7 @@ fn list_run(
 
 // Where a script's steps have stopped: the number of the refusal that ended them, 0 where there was none, its line, and
 // where their lines end in the listing.
-#[derive(Drop)]
+#[derive(Clone, Copy)]
 struct Stop {
     number: u8,
     line: usize,

@@ -1,5 +1,7 @@
 // What a step looks up on its way: a digit, the side that it names, a split's set and frame, and the parents of two ended
 // sides. Nothing is written. It relies on the plan of the table and the words of the run.
+#![tactic(auto)]
+
 ghost use Rattle.std.specs.Prelude.{◌≡◌};
 ghost use Rattle.looking.specs.code.Looking as spec;
 

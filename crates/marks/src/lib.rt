@@ -1,6 +1,8 @@
 // The marks of literals, by which a run's words and a graph's columns tell their labels: 0 for none, 1 for the left-hand side of
 // definition 00, 2 + 2t for the own literal of term t, and 3 + 2t for the event of prefix t. Here they are made, read, and found by
 // going down a path.
+#![tactic(auto)]
+
 mod path;
 
 ghost use Rattle.std.specs.Prelude.{◌≡◌};

@@ -1,5 +1,7 @@
 // The lines of a saved track's nodes, read into a column: each line is judged as it comes, and a node's place becomes its mark.
 // It relies on the line reader and on the mark of a node's line.
+#![tactic(auto)]
+
 ghost use Rattle.std.specs.Prelude.{◌≡◌, ℕ, ◌≤◌};
 ghost use Rattle.std.proofs.lemmas.List.Edits.{sets};
 ghost use Rattle.numbers.specs.code.Numbers.{read_bytes};

@@ -1,5 +1,7 @@
 // A track's graph by the numbers of the walk: the walk numbers the nodes, and marks, arcs and meetings go to columns by
 // those numbers, arcs and meetings sorted.
+#![tactic(auto)]
+
 ghost use Rattle.std.specs.Prelude.{◌≡◌, ℕ, ◌+◌, ◌*◌, ◌≤◌, length, replicate};
 ghost use Rattle.control.specs.words.Views.{pairs};
 ghost use Rattle.links.specs.words.Columns.{at};

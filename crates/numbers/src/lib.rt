@@ -1,5 +1,7 @@
 // What characters stand for, two by two: a byte, a number of two bytes, or the number of all of them. It relies on nothing, and
 // asks nothing of the characters; where they are a line's, their bytes are the line's.
+#![tactic(auto)]
+
 ghost use Rattle.std.specs.Prelude.{◌≡◌, ◌≤◌, ◌<◌};
 ghost use Rattle.numbers.specs.code.Numbers.{value, byte_of, read_bytes, byte_at, number_of};
 ghost use Rattle.lines.specs.Line.{number_at};

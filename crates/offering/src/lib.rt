@@ -1,6 +1,8 @@
 // What is offered, as a value: whether τ and ✓ are, which events, and whether τ is by the plain rules; what a term offers
 // by its own kind, what two sides offer together, and ✓ told as τ. No words are read. It relies on sets of events, and on the numbers that a plan has for
 // kinds.
+#![tactic(auto)]
+
 ghost use Rattle.std.specs.Prelude.{◌≡◌};
 ghost use Rattle.offering.specs.code.Offering as code;
 ghost use Rattle.offering.specs.code.Offering.{seen};
@@ -9,7 +11,7 @@ use plans::{PARALLEL_WORD, PREFIX_WORD, SKIP_WORD, STOP_WORD};
 use sets::{either, only, shared};
 
 // Whether τ and ✓ are offered, and which events; and whether τ is by the plain rules, as STOP's own is not.
-#[derive(Drop)]
+#[derive(Clone, Copy)]
 pub struct Offered {
     pub tau: bool,
     pub plain: bool,

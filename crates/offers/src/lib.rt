@@ -1,6 +1,8 @@
 // What a run offers: the events that its control has derivations for, by following the control and the terms below
 // it downward. Nothing is written. It relies on the plan of the table, the words of the run, and what sides offer
 // together. Each call divides what it may follow between its sides, so that the calls are few whatever is lent.
+#![tactic(auto)]
+
 ghost use Rattle.std.specs.Prelude.{ℕ, ◌≤◌, ◌≡◌, ◌&&◌};
 ghost use Rattle.rules.specs.Process.{Process};
 ghost use Rattle.plans.specs.words.Plan.{Layout};

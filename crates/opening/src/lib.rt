@@ -1,5 +1,7 @@
 // The first and the last line of a saved track: the counts of line 1, and that nothing stands behind the last. It relies on the
 // line reader, and on the bytes of a line.
+#![tactic(auto)]
+
 ghost use Rattle.std.specs.Prelude.{◌≡◌, ◌&&◌, not, ◌≤◌, drop, leb, eqb};
 ghost use Rattle.lines.specs.Line.{lines};
 ghost use Rattle.opening.specs.code.Ends as of;
@@ -12,7 +14,7 @@ use numbers::{byte, number_at};
 use rules::{ARC_ROOM, MEETING_ROOM, NODE_ROOM};
 
 // Line 1: the counts of a track, with the next line from `next` on; or the number of its refusal.
-#[derive(Drop)]
+#[derive(Clone, Copy)]
 pub enum TrackOpened {
     Track {
         nodes: usize,
@@ -24,7 +26,7 @@ pub enum TrackOpened {
 }
 
 // Some lines: they are read, with the next line from here on; or one of them stops the work.
-#[derive(Drop)]
+#[derive(Clone, Copy)]
 pub enum Lines {
     Goes(usize),
     Stops { number: u8, line: usize },

@@ -1,1 +1,2 @@
 // One outcome for each call of a door: laws alone.
+#![tactic(auto)]

@@ -1,5 +1,7 @@
 // The lines of a saved track's pairs, its arcs or its meetings, read into the words of a track: each line is judged as it comes.
 // It relies on the line reader, and on the bytes of a line.
+#![tactic(auto)]
+
 ghost use Rattle.std.specs.Prelude.{◌≡◌, ◌+◌, ◌*◌, ◌≤◌};
 ghost use Rattle.std.proofs.lemmas.List.Edits.{sets};
 ghost use Rattle.numbers.specs.code.Numbers.{read_bytes};

@@ -1,6 +1,8 @@
 // The standing parts of a run's control: the whole, and, where a choice or parallel stands inside the sequences around
 // it, its two sides, and so on. Nothing is written. It relies on the plan of the table, the words of the run, and on
 // how `offers` follows them; what a part offers is `offers::offers_of_part`.
+#![tactic(auto)]
+
 ghost use Rattle.std.specs.Prelude.{◌≡◌};
 ghost use Rattle.offers.specs.code.Following.{levels};
 ghost use Rattle.parts.specs.code.Parts as code;
@@ -11,7 +13,7 @@ use offers::{TERM_LEVELS, first_of, inside};
 use plans::{EXTERNAL_WORD, PARALLEL_WORD, Plan, SEQUENCE_WORD, kind_of, second_of};
 
 // What stands at a reference up to a bound; at reference 0 a side that has not stepped, of a term.
-#[derive(Drop)]
+#[derive(Clone, Copy)]
 pub struct Part {
     pub reference: usize,
     pub term: usize,
@@ -20,7 +22,7 @@ pub struct Part {
 
 // What stands in a part, inside the sequences around it: a term without sides of its own; a choice or parallel, which a
 // step has entered or not; Ω; ⊥.
-#[derive(Drop)]
+#[derive(Clone, Copy)]
 pub enum Standing {
     Term { term: usize },
     Split { term: usize, entered: bool },
@@ -29,7 +31,7 @@ pub enum Standing {
 }
 
 // The two sides of a choice or parallel.
-#[derive(Drop)]
+#[derive(Clone, Copy)]
 pub struct Sides {
     pub first: Part,
     pub second: Part,

@@ -1,6 +1,8 @@
 // The library as a host links it: functions under plain names, for C, Rust and whatever else calls C. A host keeps a table, a
 // run, a track that was read and room to work in as blocks of its own; each function hands the parts of its blocks on, and
 // promises what the function over these parts does. The header and the Rust crate in `hosts` say the same to a host.
+#![tactic(auto)]
+
 ghost use Rattle.std.specs.Prelude.{◌≡◌, drop, length};
 ghost use Rattle.std.proofs.lemmas.List.Edits.{sets as put};
 ghost use Rattle.lines.specs.Line.{lines};
@@ -24,7 +26,7 @@ use track_parts::{read_parts, save_parts, write_parts};
 
 // A table: its head, the columns of its terms and definitions, and its plan.
 #[repr(C)]
-#[derive(Drop)]
+#[derive(Clone, Copy)]
 pub struct TableBlock {
     pub head: Head,
     pub kinds: Kinds,
@@ -37,7 +39,7 @@ pub struct TableBlock {
 
 // A run: its stamp, room for an address, its counters and its words.
 #[repr(C)]
-#[derive(Drop)]
+#[derive(Clone, Copy)]
 pub struct RunBlock {
     pub stamp: usize,
     pub digits: Digits,
@@ -48,7 +50,7 @@ pub struct RunBlock {
 
 // A track that was read: its head, the marks of its nodes by number, and its arcs and meetings.
 #[repr(C)]
-#[derive(Drop)]
+#[derive(Clone, Copy)]
 pub struct TrackBlock {
     pub head: Head,
     pub labels: Column,
@@ -57,7 +59,7 @@ pub struct TrackBlock {
 
 // Room to work in, for saving and reading. What stands there does not matter, and it is all 0 afterwards.
 #[repr(C)]
-#[derive(Drop)]
+#[derive(Clone, Copy)]
 pub struct WorkBlock {
     pub labels: Column,
     pub graph: Track,

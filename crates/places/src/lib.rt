@@ -1,5 +1,7 @@
 // Places of literals, worked out by following the terms of a checked table downward.
 // It relies on the columns of the table check and on the constant table by kind.
+#![tactic(auto)]
+
 mod descent;
 
 ghost use Rattle.std.specs.Prelude.{◌≡◌, ◌≤◌};
@@ -20,7 +22,7 @@ pub type Path = [u8; PATH_ROOM];
 
 // A literal: the left-hand side of a definition; the own literal of a term, by its number, which for a prefix
 // is the arrow; or the event of a prefix.
-#[derive(Drop)]
+#[derive(Clone, Copy)]
 pub enum Literal {
     Left(u8),
     Own(usize),
@@ -29,21 +31,21 @@ pub enum Literal {
 
 // The place of a literal, whose path stands in front of the lent array; `Nowhere` where the
 // columns hold no such literal.
-#[derive(Drop)]
+#[derive(Clone, Copy)]
 pub enum Placed {
     At { definition: u8, length: usize },
     Nowhere,
 }
 
 // Where a path ends: after so many digits; or it leads nowhere.
-#[derive(Drop)]
+#[derive(Clone, Copy)]
 pub enum Reached {
     Ends(usize),
     Astray,
 }
 
 // A step downward: the subterm, and its digit.
-#[derive(Drop)]
+#[derive(Clone, Copy)]
 pub struct StepDown {
     pub next: usize,
     pub digit: u8,

@@ -1,6 +1,8 @@
 // The plan of a checked table: four words for each of its terms, as a step and its offers read them: its kind;
 // its operand, which is a prefix's event or the root that a call leads to; its second subterm; and the
 // sequence around it. It relies on the columns of the table check.
+#![tactic(auto)]
+
 mod laying;
 
 ghost use Rattle.std.specs.Prelude.{◌≡◌, ◌<◌};

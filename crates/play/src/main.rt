@@ -1,6 +1,8 @@
 // The playing program: reads a table and then a script from standard input, plays the script up to the first line that is
 // refused, and tells the inside of the run. It tells nothing where there is no run, since the table is refused or the
 // script is over its room. All that it tells comes from the proved libraries; here it is only read and written.
+#![tactic(auto)]
+
 mod standing;
 mod telling;
 

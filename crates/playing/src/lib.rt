@@ -1,4 +1,6 @@
 // A script's line played: its digits are read, and the run takes its step. It relies on the script's lines and on the step.
+#![tactic(auto)]
+
 ghost use Rattle.std.specs.Prelude.{◌≡◌, drop};
 ghost use Rattle.std.proofs.Math.Seq as seq;
 ghost use Rattle.scripts.specs.Script.{left};
@@ -16,7 +18,7 @@ use scripts::{Digits, ScriptStep, next_step};
 
 // What a line of a script comes to: a step, with the next line from `next` on; the number of the refusal; or nothing,
 // at the end of the script.
-#[derive(Drop)]
+#[derive(Clone, Copy)]
 pub enum Played {
     Stepped { event: Event, next: usize },
     Refused(u8),

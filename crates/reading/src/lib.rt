@@ -1,5 +1,7 @@
 // Saved tracks read: a text's lines are read into columns, the reader's rules are tested on them, and an accepted graph is
 // handed over. It relies on the parts of the line reading and on the test of a graph's shape.
+#![tactic(auto)]
+
 ghost use Rattle.std.specs.Prelude.{◌≡◌, replicate};
 ghost use Rattle.graphs.specs.Parsed.{parsed};
 ghost use Rattle.reading.specs.code.Outcome as of;
@@ -19,7 +21,7 @@ use pair_lines::read_pairs;
 use shapes::has_shape;
 
 // What reading comes to: the counts of the graph that was read; or a refusal's number and line.
-#[derive(Drop)]
+#[derive(Clone, Copy)]
 pub enum Read {
     Accepted(GraphCounts),
     Refused { number: u8, line: usize },

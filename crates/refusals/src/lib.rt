@@ -1,5 +1,7 @@
 // The lines of a table judged, each by what the lines before it have said: its frame, or the lowest number of refusal that it
 // meets. It relies on the line reader and on the frames.
+#![tactic(auto)]
+
 ghost use Rattle.std.specs.Prelude.{◌≡◌, drop, leb, ltb, eqb, not};
 ghost use Rattle.frames.specs.TableFrame as table;
 ghost use Rattle.refusals.specs.code.Said.{stop, failure, said, opened};
@@ -16,7 +18,7 @@ use lines::{INCOMPLETE, Line, OUT_OF_RANGE, TERM_OVER_ROOM, WRONG_FRAME, refusal
 
 // What line 1 opens: a table of so many definitions and events, with the next line from `next` on, or the
 // number of its refusal.
-#[derive(Drop)]
+#[derive(Clone, Copy)]
 pub enum TableOpened {
     Table {
         definitions: usize,
@@ -27,7 +29,7 @@ pub enum TableOpened {
 }
 
 // What a line says: its frame, with the next line from `next` on, or the number of its refusal.
-#[derive(Drop)]
+#[derive(Clone, Copy)]
 pub enum Said {
     Goes { frame: Frame, next: usize },
     Stops(u8),

@@ -1,5 +1,7 @@
 // The rereading program: reads a table and then a saved track from standard input, and writes the track again, or tells the
 // refusal. All that it tells comes from the proved libraries; here it is only read and written.
+#![tactic(auto)]
+
 use columns::{After, Kinds, Owners, Payloads, Roots};
 use control::{REFERENCES, TRACK_WORDS, Track};
 use frames::{DEFINITION_ROOM, TERM_ROOM};

@@ -1,5 +1,6 @@
 // The report's rules and document 01's runs, as definitions and laws: Fig. 7 and Fig. 3, a run with its rooms, offers and
 // status. What a step shows and how a run stands are declared here, and used by the definitions and by all code above.
+#![tactic(auto)]
 
 // The rooms of a run.
 pub const CELL_ROOM: usize = 1024;
@@ -11,7 +12,7 @@ pub const ARC_ROOM: usize = 8192;
 pub const MEETING_ROOM: usize = 4096;
 
 // What a step shows: τ, ✓ or a numbered event.
-#[derive(Drop)]
+#[derive(Clone, Copy)]
 pub enum Event {
     Tau,
     Tick,
@@ -19,7 +20,7 @@ pub enum Event {
 }
 
 // How a run stands: ended at Ω, stuck where the plain rules have no step, and else live.
-#[derive(Drop)]
+#[derive(Clone, Copy)]
 pub enum Status {
     Live,
     Ended,

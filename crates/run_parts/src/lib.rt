@@ -1,5 +1,7 @@
 // A run's block by its parts: started, stepped, played by a script's line, and what it offers and how it stands. A block that was
 // never filled is refused, by its stamp; what a door answers is told as a number.
+#![tactic(auto)]
+
 ghost use Rattle.std.specs.Prelude.{◌≡◌, drop};
 ghost use Rattle.lines.specs.Line.{lines};
 ghost use Rattle.run_parts.specs.code.RunTold as host;

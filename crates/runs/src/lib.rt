@@ -1,5 +1,7 @@
 // Runs: started, and stepped by an address. A step is weighed first, and only one that has a derivation and fits the rooms is
 // taken, so that a refused one leaves every word as it was.
+#![tactic(auto)]
+
 ghost use Rattle.std.specs.Prelude.{◌≡◌};
 ghost use Rattle.leaves.specs.code.Leaves.{with_words};
 ghost use Rattle.runs.specs.code.Doors as spec;
@@ -24,13 +26,13 @@ const CONTROL_LEVELS: usize = 1025;
 const STEP_LEVELS: usize = 2048;
 
 // What an accepted step shows.
-#[derive(Drop)]
+#[derive(Clone, Copy)]
 pub struct Shown {
     pub event: Event,
 }
 
 // What an address comes to: a step, or the number of its refusal.
-#[derive(Drop)]
+#[derive(Clone, Copy)]
 pub enum Answer {
     Accepted(Shown),
     Refused(u8),

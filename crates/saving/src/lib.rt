@@ -1,4 +1,6 @@
 // Tracks saved: a run's track becomes lines of hexadecimal in a lent slice, numbered by the walk.
+#![tactic(auto)]
+
 ghost use Rattle.std.specs.Prelude.{◌≡◌, ◌≤◌, replicate};
 ghost use Rattle.walks.specs.code.Walked.{laid};
 ghost use Rattle.writing.specs.words.Slice.{with_slice, written};

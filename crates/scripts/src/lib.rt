@@ -1,5 +1,7 @@
 // A script's lines: each asks for a step by an address, whose digits go into a lent array.
 // It relies on the line reader for where a line ends and what its bytes are.
+#![tactic(auto)]
+
 ghost use Rattle.std.specs.Prelude.{◌≡◌, ◌≤◌, length, drop};
 ghost use Rattle.std.proofs.Math.Option.{some};
 ghost use Rattle.std.proofs.lemmas.List.Edits.{sets};
@@ -33,7 +35,7 @@ const HIGHEST: u8 = 4;
 
 // What the next line of a script asks for: a step, by an address of `count` digits, with the next line from
 // `next` on; the number of the line's refusal; or nothing, at the end of the script.
-#[derive(Drop)]
+#[derive(Clone, Copy)]
 pub enum ScriptStep {
     Address { count: usize, next: usize },
     Refused(u8),

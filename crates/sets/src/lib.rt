@@ -1,5 +1,7 @@
 // Sets of events, each promise told by members, so that nothing above knows how a set stands in its words.
 // It relies on the definition of a set in frames.
+#![tactic(auto)]
+
 ghost use Rattle.std.specs.Prelude.{◌≡◌, ◌&&◌, ◌||◌, eqb, ltb};
 ghost use Rattle.sets.specs.EventSet.{member};
 ghost use Rattle.frames.specs.TableFrame.{event_room};

@@ -1,5 +1,7 @@
 // The reader's rules that are tested item by item, on a graph in columns: a loop for each, which the first item that breaks the
 // rule ends. It relies on the words of a track and on marks.
+#![tactic(auto)]
+
 ghost use Rattle.std.specs.Prelude.{◌≡◌, ◌+◌, ◌≤◌, eqb};
 ghost use Rattle.control.specs.words.Views.{pairs, meetings_of};
 ghost use Rattle.graphs.specs.Shape.{every, ascends, from_on};

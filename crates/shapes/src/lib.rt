@@ -1,5 +1,7 @@
 // All the reader's rules, tested on a graph in columns. It relies on the rules that are tested item by item, on arcs linked to
 // their sides, and on the numbering walk.
+#![tactic(auto)]
+
 ghost use Rattle.std.specs.Prelude.{◌≡◌, replicate};
 ghost use Rattle.shapes.specs.code.Rules as of;
 ghost use Rattle.control.specs.words.Words.{reference_room};

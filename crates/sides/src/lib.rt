@@ -1,4 +1,6 @@
 // The sides of an entered choice or parallel: entering them, and what their steps make of it.
+#![tactic(auto)]
+
 ghost use Rattle.std.specs.Prelude.{◌≡◌, ◌≤◌};
 ghost use Rattle.leaves.specs.code.Leaves.{with_words};
 ghost use Rattle.sides.specs.code.Sides as spec;

@@ -1,5 +1,7 @@
 // Bytes spelled as hexadecimal in a lent slice: each function puts its characters from a cursor on, and tells
 // where they end. Past the end of the slice nothing is put. It relies on the definitions of `lines` alone.
+#![tactic(auto)]
+
 ghost use Rattle.std.specs.Prelude.{◌≡◌, [], ◌∷◌, ◌<◌, ◌≤◌, set};
 ghost use Rattle.lines.specs.Line.{hex, character, two};
 ghost use Rattle.lines.specs.Line as line;

@@ -1,5 +1,7 @@
 // The status of a run: whether it has ended, goes on or is stuck, by what it offers, STOP's own step apart. Nothing is
 // written. It relies on what a run offers, and on sets of events.
+#![tactic(auto)]
+
 ghost use Rattle.std.specs.Prelude.{◌≡◌};
 ghost use Rattle.status.specs.code.Status as code;
 ghost use Rattle.status.specs.words.Told.{TellsStatus};

@@ -1,5 +1,7 @@
 // The step of an address taken: from the outside inward, by the digits that name it. Only a step that was weighed, and fits,
 // is taken. It relies on the steps of leaves and on the sides of a choice or parallel.
+#![tactic(auto)]
+
 ghost use Rattle.std.specs.Prelude.{◌≡◌};
 ghost use Rattle.leaves.specs.code.Leaves.{with_words};
 ghost use Rattle.stepping.specs.code.Take as spec;

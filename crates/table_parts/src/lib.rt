@@ -1,4 +1,6 @@
 // A table's block by its parts: a table's text checked and laid out. What the doors answer is told as a number.
+#![tactic(auto)]
+
 ghost use Rattle.std.specs.Prelude.{◌≡◌};
 ghost use Rattle.tables.specs.Table.{judged};
 ghost use Rattle.columns.specs.words.Columns.{all_columns};

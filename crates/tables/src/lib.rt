@@ -1,6 +1,8 @@
 // Tables of terms: a table's text is judged, and a good one becomes columns: for each term its kind, its
 // payload, the definition that it stands in and the term behind it, and for each definition its root. It
 // relies on the line reader for where a line ends and what its bytes are.
+#![tactic(auto)]
+
 ghost use Rattle.std.specs.Prelude.{◌≡◌, ◌≤◌, drop};
 ghost use Rattle.lines.specs.Line.{lines};
 ghost use Rattle.lines.specs.Judging.{judged_from};
@@ -21,7 +23,7 @@ use refusals::{Said, TableOpened, failure_of, first_line, stop_of, table_line};
 pub const TABLE_TEXT_ROOM: usize = 32768;
 
 // How much a table holds.
-#[derive(Drop)]
+#[derive(Clone, Copy)]
 pub struct TableCounts {
     pub definitions: usize,
     pub events: usize,
@@ -29,7 +31,7 @@ pub struct TableCounts {
 }
 
 // What a table's text is: accepted, or the number of its refusal and the line.
-#[derive(Drop)]
+#[derive(Clone, Copy)]
 pub enum Checked {
     Accepted(TableCounts),
     Refused { number: u8, line: usize },

@@ -1,5 +1,7 @@
 // Lines of the listing: each function puts its line from a cursor on, and tells where it ends. Past the end of the slice
 // nothing is put.
+#![tactic(auto)]
+
 ghost use Rattle.std.specs.Prelude.{[], ◌∷◌, ◌≤◌, length, take};
 ghost use Rattle.lines.specs.Line.{text};
 ghost use Rattle.spelling.specs.words.Puts.{Puts, number_cursor, line_cursor};

@@ -1,5 +1,7 @@
 // The tracking program: reads a table and then a script from standard input, and prints their listing. What it prints is
 // the library's; here it is only read and written.
+#![tactic(auto)]
+
 use inputs::{STANDARD_INPUT, STANDARD_OUTPUT, input_room};
 use lines::part_of;
 use listing::list;

@@ -1,5 +1,7 @@
 // Tracks by the parts of blocks: a run's track saved, a saved text read into a track's block, and written again. A block that was
 // never filled is refused, by its stamp; what a door answers is told as a number.
+#![tactic(auto)]
+
 ghost use Rattle.std.specs.Prelude.{◌≡◌, length};
 ghost use Rattle.track_parts.specs.code.TrackTold as host;
 

@@ -1,5 +1,7 @@
 // The numbering walk over a graph in columns: depth first from reference 0, a node numbered when first met, of two arcs the
 // first side's first. It relies on the linked sides.
+#![tactic(auto)]
+
 ghost use Rattle.std.specs.Prelude.{◌≡◌, ◌+◌, ◌*◌, ◌≤◌, ◌<◌, length, get_or, set, replicate};
 ghost use Rattle.std.proofs.lemmas.List.Edits.{sets};
 ghost use Rattle.columns.specs.words.Columns.{look};

@@ -1,5 +1,7 @@
 // Weighing a step: what the derivation that an address names would show and add, read off the control and the
 // terms below it, from the outside inward. Nothing is written. The recursion goes at most 2,048 calls deep.
+#![tactic(auto)]
+
 ghost use Rattle.std.specs.Prelude.{◌≡◌};
 ghost use Rattle.weighing.specs.code.Weigh as spec;
 ghost use Rattle.weighing.specs.code.Ending as ending;

@@ -1,4 +1,6 @@
 // What each rule makes of the weights of its premises: nothing here looks at control or terms. It relies on sets of events.
+#![tactic(auto)]
+
 ghost use Rattle.std.specs.Prelude.{◌≡◌};
 ghost use Rattle.weights.specs.code.Rules as spec;
 
@@ -9,7 +11,7 @@ use sets::has;
 
 // What a derivation would show and add: its event; where its digits end; the cells of its part of control after
 // it; and how many nodes, arcs, meetings and event nodes it adds.
-#[derive(Drop)]
+#[derive(Clone, Copy)]
 pub struct Weight {
     pub event: Event,
     pub at: usize,
@@ -21,7 +23,7 @@ pub struct Weight {
 }
 
 // A derivation's weight, or that there is none.
-#[derive(Drop)]
+#[derive(Clone, Copy)]
 pub enum Weighed {
     Derived(Weight),
     Nothing,

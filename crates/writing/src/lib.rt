@@ -1,5 +1,7 @@
 // Graphs written: a graph in columns becomes lines of hexadecimal in a lent slice. Its length is told first, so that a slice
 // that is too short is left as it was.
+#![tactic(auto)]
+
 ghost use Rattle.std.specs.Prelude.{◌≡◌};
 ghost use Rattle.columns.specs.words.Columns.{columns};
 ghost use Rattle.graphs.specs.Saved.{graph_text};
@@ -20,7 +22,7 @@ const FRAME_LINES: usize = 20;
 const PAIR_LINE: usize = 11;
 
 // What writing comes to: the length of the text; or refusal 12, with the length that the text would have.
-#[derive(Drop)]
+#[derive(Clone, Copy)]
 pub enum Saved {
     Written(usize),
     Short(usize),
