@@ -1,0 +1,40 @@
+use Prim.Native.Nat.{◌-◌}
+use mathlib.Core.Path.{sym, ◌∙◌}
+use mathlib.Core.Logic.{⊎_elim, inl, inr}
+use native.Mathlib.Nat.{sub-zero}
+use Rattle.drawing.proofs.Laws.{joined_past, joined_end, joined_turn, parts_kept}
+use native.Mathlib.Omega.{arith}
+use Rattle.drawing.proofs.join.Goals as goal
+
+pub loop-i-init : goal.loop-i-init
+loop-i-init c = rw sub-zero
+
+pub returns-then-i-ge-ARC_ROOM : goal.returns-then-i-ge-ARC_ROOM
+returns-then-i-ge-ARC_ROOM c = let told = parts_kept _ _ _ (sym (joined_past _ _ _ _ _ _ _ c.if-i-ge-ARC_ROOM.true) ∙ c.loop-i.invariant) in record { value = told.0; track_after = told.1 }
+
+pub overflow_mul-i : goal.overflow_mul-i
+overflow_mul-i c = omega arith
+
+pub overflow_mul-i-in-loop-i : goal.overflow_mul-i-in-loop-i
+overflow_mul-i-in-loop-i c = omega arith
+
+pub overflow_add-i : goal.overflow_add-i
+overflow_add-i c = omega arith
+
+pub overflow_add-i-in-loop-i : goal.overflow_add-i-in-loop-i
+overflow_add-i-in-loop-i c = omega arith
+
+pub loop-i-smaller : goal.loop-i-smaller
+loop-i-smaller c = omega arith
+
+pub loop-i-preserved : goal.loop-i-preserved
+loop-i-preserved c =
+    joined_turn _ _ _ _ _ _ _ c.loop-i-test.true c.if-i-ge-ARC_ROOM.false _ _ _
+    c.track_word-from.ensures c.track_word-target.ensures
+    c.leads.ensures _ _
+    (⊎_elim (λ y. inl (y.0.taken, y.4 ∙ y.2.ensures.0, y.3 ∙ y.2.ensures.1))
+    (λ y. inr (y.0.left, y.2, y.1)) c.if-leads.branch)
+    ∙ c.loop-i.invariant
+
+pub returns : goal.returns
+returns c = let told = parts_kept _ _ _ (sym (joined_end _ _ _ _ _ _ _ c.loop-i-test.false) ∙ c.loop-i.invariant) in record { value = told.0; track_after = told.1 }

@@ -1,0 +1,46 @@
+use mathlib.Core.Path.{refl, ◌∙◌}
+use Prim.Native.Nat.{◌-◌}
+use native.Mathlib.Nat.{min-le_right}
+use mathlib.Core.Logic.{⊎_elim}
+use native.Mathlib.Omega.{arith}
+use Rattle.links.proofs.LinkLaws.{fit_turn, linked_turn, fits_lost, fits_kept}
+use Rattle.links.proofs.LinkLaws.{linking_over}
+use Rattle.links.proofs.link.Goals as goal
+
+pub loop-i-init : goal.loop-i-init
+loop-i-init c = (omega arith, rw c.at_most-count.ensures (min-le_right _ _), refl, refl)
+
+pub overflow_mul-i : goal.overflow_mul-i
+overflow_mul-i c = omega arith
+
+pub overflow_mul-i-in-loop-i : goal.overflow_mul-i-in-loop-i
+overflow_mul-i-in-loop-i c = omega arith
+
+pub overflow_add-i : goal.overflow_add-i
+overflow_add-i c = omega arith
+
+pub overflow_add-i-in-loop-i : goal.overflow_add-i-in-loop-i
+overflow_add-i-in-loop-i c = omega arith
+
+pub loop-i-smaller : goal.loop-i-smaller
+loop-i-smaller c = omega arith
+
+pub loop-i-preserved : goal.loop-i-preserved
+loop-i-preserved c =
+    let known = c.loop-i.invariant in
+    let fits = c.loop-i.fits in
+    let linking = c.link_arc-fit in
+    let fit = fit_turn _ _ _ _ _ _ _ _ _ _ _ c.loop-i-test.true c.track_word-from.ensures
+    c.track_word-to.ensures linking.ensures in (
+      omega arith,
+      known.1,
+      known.2 ∙ ⊎_elim (λ w. fits_lost fits _ linking.result _ _ fit w.0.taken w.1)
+          (λ w. fits_kept fits _ linking.result _ _ fit w.0.left w.1) c.if-not-fit.branch,
+      known.3 ∙ linked_turn _ _ _ _ _ _ _ _ _ _ _ c.loop-i-test.true c.track_word-from.ensures
+          c.track_word-to.ensures linking.ensures,
+    )
+
+pub returns : goal.returns
+returns c =
+    let known = c.loop-i.invariant in let told = linking_over _ _ _ _ _ _ c.at_most-count.ensures _ _ _ _ c.loop-i-test.false known.2
+    known.3 in record { value = told.0; sides_after = told.1 }

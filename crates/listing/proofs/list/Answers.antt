@@ -1,0 +1,26 @@
+-- `listing::list` meets its contract: the table's text is a part of the input, since it ends within it, and
+-- what is put is the listing by what the table is judged. Assumes nothing.
+use mathlib.Core.Path.{sym}
+use lib.Seq.{length-take-le}
+use Rattle.inputs.proofs.Cutting.{table_within}
+use Rattle.listing.proofs.Whole.{refused_listed, accepted_listed}
+use Rattle.listing.proofs.list.Goals as goal
+
+pub slice_bounds-check-end : goal.slice_bounds-check-end
+slice_bounds-check-end c = sym (length-take-le _ _ (rw c.table_end-end.ensures (table_within _)))
+
+pub slice_bounds-list_script-count : goal.slice_bounds-list_script-count
+slice_bounds-list_script-count c = rw c.table_end-end.ensures (table_within _)
+
+pub slice_bounds-list_script-start : goal.slice_bounds-list_script-start
+slice_bounds-list_script-start c = sub-list-script c
+
+pub returns-in-Refused : goal.returns-in-Refused
+returns-in-Refused c =
+    refused_listed _ _ c.table_end-end.ensures _ c.check-checked.ensures _ _ c.in let told = -Refused.is
+    c.put_refusal.ensures in record { value = told.0; out_after = told.1 }
+
+pub returns-in-Accepted : goal.returns-in-Accepted
+returns-in-Accepted c =
+    accepted_listed _ _ c.table_end-end.ensures _ c.check-checked.ensures _ c.in let told = -Accepted.is
+    c.list_script.ensures in record { value = told.0; out_after = told.1 }

@@ -1,0 +1,13 @@
+-- `listing::put_steps` meets its contract. The loop's invariant is `Going`: what the script comes to is what
+-- the lines from the cursor on come to, behind the events whose lines are put, and the way out and each turn is
+-- a law of it. The measure is what is left of the script. Assumes nothing.
+use Prim.Native.Nat.{◌-◌}
+use lib.ListN.{length}
+use Rattle.listing.proofs.Stepping.{Going}
+use Rattle.listing.proofs.put_steps.Given as goal
+
+abbrev pub invariant-loop-event : goal.invariant-loop-event
+invariant-loop-event l = Going l.plan l.sets l.script l.initial.nodes l.initial.track l.initial.counters l.initial.out l.nodes l.track l.counters l.out l.digits l.at l.line l.end
+
+abbrev pub decreases-loop-event : goal.decreases-loop-event
+decreases-loop-event l = length l.script - l.at

@@ -1,0 +1,7 @@
+-- `numbers::byte_of` meets its contract: its two calls give the values that the definition has. Assumes nothing.
+use Prim.Native.Nat.{ℕ, ◌+◌, ◌*◌, ◌%◌}
+use mathlib.Core.Path.{ap₂}
+use Rattle.numbers.proofs.byte_of.Goals as goal
+
+pub returns : goal.returns
+returns c = ap₂ (λ (h l : ℕ). h % 16 * 16 + l % 16) c.value_of.ensures c.value_of-2.ensures

@@ -1,0 +1,13 @@
+-- `numbers::number_at` meets its contract: two bytes make their number. Assumes nothing.
+use native.Mathlib.Omega.{arith}
+use Rattle.lines.specs.Line.{number_from}
+use Rattle.numbers.proofs.number_at.Goals as goal
+
+)
+
+pub returns : goal.returns
+unfolding number_from
+returns c =
+    let told = (
+  omega (arith, c.byte_at.ensures.value, c.byte_at-2.ensures.value),
+  omega (arith, c.byte_at.ensures.upper_bound, c.byte_at-2.ensures.upper_bound), in record { value = told.0; upper_bound = told.1 }

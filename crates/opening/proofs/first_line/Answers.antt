@@ -1,0 +1,50 @@
+-- `opening::first_line` meets its contract: line 1 is none, or has another frame, or its numbers are outside or
+-- inside their ranges. Assumes nothing.
+use native.Mathlib.Omega.{arith}
+use Rattle.lines.proofs.Laws.{not_found}
+use Rattle.opening.proofs.Tested.{opening_length, opening_tag, opening_read}
+use Rattle.opening.proofs.Turns.{held_line, opened_none, opened_stops, opened_outside, opened_inside}
+use Rattle.opening.proofs.first_line.Goals as goal
+
+pub enum_known-line : goal.enum_known-line
+enum_known-line c = c.in-Found.keys1
+
+pub returns-in_default : goal.returns-in_default
+returns-in_default c =
+    opened_none _ c.next_line-line.ensures (not_found _ c.in_default.keys2)
+    c.refusal_of.ensures
+
+pub returns-then-chars-ne8 : goal.returns-then-chars-ne8
+returns-then-chars-ne8 c =
+    let i = held_line _ 0 c.next_line-line.ensures c.in-Found.is
+    c.characters-chars.ensures in
+    opened_stops _ i (opening_length _ c.if-chars-ne8.true) (λ q. omega (arith, q))
+
+pub returns-then-byte-ne-TRACK_FRAME : goal.returns-then-byte-ne-TRACK_FRAME
+returns-then-byte-ne-TRACK_FRAME c =
+    let i = held_line _ 0 c.next_line-line.ensures c.in-Found.is
+    c.characters-chars.ensures in
+    opened_stops _ i (opening_tag _ c.byte.ensures c.if-byte-ne-TRACK_FRAME.true)
+    (λ q. omega (arith, q))
+
+pub returns-then-counts_outside : goal.returns-then-counts_outside
+returns-then-counts_outside c =
+    let i = held_line _ 0 c.next_line-line.ensures c.in-Found.is
+    c.characters-chars.ensures in
+    let opens = opening_read _ c.if-chars-ne8.false c.byte.ensures
+    c.if-byte-ne-TRACK_FRAME.false c.byte-2.ensures
+    c.number_at-nodes.ensures.value
+    c.number_at-arcs.ensures.value
+    c.number_at-meetings.ensures.value in
+    opened_outside _ i opens c.counts_outside.ensures c.if-counts_outside.true
+
+pub returns : goal.returns
+returns c =
+    let i = held_line _ 0 c.next_line-line.ensures c.in-Found.is
+    c.characters-chars.ensures in
+    let opens = opening_read _ c.if-chars-ne8.false c.byte.ensures
+    c.if-byte-ne-TRACK_FRAME.false c.byte-2.ensures
+    c.number_at-nodes.ensures.value
+    c.number_at-arcs.ensures.value
+    c.number_at-meetings.ensures.value in
+    opened_inside _ i opens c.counts_outside.ensures c.if-counts_outside.false

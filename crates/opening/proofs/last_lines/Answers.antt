@@ -1,0 +1,34 @@
+-- `opening::last_lines` meets its contract: the line is none, or another, or the last one, with what stands behind
+-- it. Assumes nothing.
+use Rattle.lines.proofs.Laws.{not_found}
+use Rattle.opening.proofs.Tested.{last_length, last_tag, last_fits}
+use Rattle.opening.proofs.Turns.{held_line, last_none, last_stops, last_goes}
+use Rattle.opening.proofs.last_lines.Goals as goal
+
+pub enum_known-found : goal.enum_known-found
+enum_known-found c = c.in-Found.keys1
+
+pub returns-in_default : goal.returns-in_default
+returns-in_default c =
+    last_none _ _ _ c.next_line-found.ensures (not_found _ c.in_default.keys2)
+    c.refusal_of.ensures
+
+pub returns-then-chars-ne1 : goal.returns-then-chars-ne1
+returns-then-chars-ne1 c =
+    let i = held_line _ _ c.next_line-found.ensures c.in-Found.is
+    c.characters-chars.ensures in
+    last_stops _ _ _ i (last_length _ c.if-chars-ne1.true)
+
+pub returns-then-byte-ne-TRACK_END_FRAME : goal.returns-then-byte-ne-TRACK_END_FRAME
+returns-then-byte-ne-TRACK_END_FRAME c =
+    let i = held_line _ _ c.next_line-found.ensures c.in-Found.is
+    c.characters-chars.ensures in
+    last_stops _ _ _ i (last_tag _ c.byte.ensures c.if-byte-ne-TRACK_END_FRAME.true)
+
+pub returns : goal.returns
+returns c =
+    let i = held_line _ _ c.next_line-found.ensures c.in-Found.is
+    c.characters-chars.ensures in
+    last_goes _ _ _ i
+    (last_fits _ c.byte.ensures c.if-chars-ne1.false c.if-byte-ne-TRACK_END_FRAME.false)
+    c.behind_last.ensures

@@ -1,0 +1,12 @@
+-- `run_parts::play_parts` meets its contract: a block that is not filled is told, and else the line is the door's.
+-- Assumes nothing.
+use Rattle.run_parts.proofs.Laws.{line_untouched, line_played}
+use Rattle.run_parts.proofs.play_parts.Goals as goal
+
+pub returns-then-unready-ne-DONE : goal.returns-then-unready-ne-DONE
+returns-then-unready-ne-DONE c = line_untouched _ _ _ c.unready-unready.ensures _ _ _ _ _ _ _ _ c.if-unready-ne-DONE.true
+
+pub returns : goal.returns
+returns c =
+    line_played _ _ _ c.unready-unready.ensures _ _ _ _ _ _ _ _ _ c.if-unready-ne-DONE.false c.play-played.ensures.digits_after.0
+    _ _ _ _ c.play-played.ensures.counters_after _ _ c.of_played.ensures c.cursor_behind.ensures

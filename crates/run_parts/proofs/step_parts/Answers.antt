@@ -1,0 +1,17 @@
+-- `run_parts::step_parts` meets its contract: a block that is not filled is told, and else the step is the door's.
+-- Assumes nothing.
+use Rattle.run_parts.proofs.Laws.{step_untouched, step_too_long, step_taken}
+use Rattle.run_parts.proofs.step_parts.Goals as goal
+
+pub returns-then-unready-ne-DONE : goal.returns-then-unready-ne-DONE
+returns-then-unready-ne-DONE c = step_untouched _ _ _ c.unready-unready.ensures _ _ _ _ _ _ _ c.if-unready-ne-DONE.true
+
+pub returns-then-count-gt-DIGIT_ROOM : goal.returns-then-count-gt-DIGIT_ROOM
+returns-then-count-gt-DIGIT_ROOM c =
+    step_too_long _ _ _ c.unready-unready.ensures _ _ _ _ _ _ _ c.if-unready-ne-DONE.false c.if-count-gt-DIGIT_ROOM.true _
+    c.of_refusal.ensures
+
+pub returns : goal.returns
+returns c =
+    step_taken _ _ _ c.unready-unready.ensures _ _ _ _ _ _ _ _ c.if-unready-ne-DONE.false c.if-count-gt-DIGIT_ROOM.false
+    c.put_copy.ensures.stands _ _ _ _ c.step.ensures.counters_after _ c.of_step.ensures
