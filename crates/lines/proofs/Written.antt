@@ -109,6 +109,7 @@ written_frame b bs h = hex_bytes (b ∷ bs) h
 pub frames_back : (fs : List (List ℕ)) → Frames fs → map frame (lines (text fs)) ≡ map some fs
 unfolding text lines
 frames_back [] no_frames = refl
+frames_back ([] ∷ fs) f = elim f [ ]
 frames_back ((b ∷ bs) ∷ fs) (frame_first h t) =
     simp (written_first (b ∷ bs) fs h, written_frame b bs h, frames_back fs t)
 

@@ -5,13 +5,12 @@ use mathlib.Core.Logic.{⊎_elim}
 use Rattle.drawing.proofs.Laws.{arc_counted, arc_put, arc_left_out}
 use Rattle.drawing.proofs.arc.Goals as goal
 
-)
-
 pub returns : goal.returns
 returns c =
-    let told = (
-  arc_counted _ _ c.sum.ensures,
-  ⊎_elim
-      (λ y. y.5 ∙ arc_put _ _ _ _ y.0.taken _ _ y.2.ensures y.4.ensures)
-      (λ y. y.1 ∙ arc_left_out _ _ _ _ y.0.left)
-      c.if-at-lt-ARC_ROOM.branch, in record { value = told.0; track_after = told.1 }
+    record {
+      value = arc_counted _ _ c.sum.ensures;
+      track_after = ⊎_elim
+          (λ y. y.5 ∙ arc_put _ _ _ _ y.0.taken _ _ y.2.ensures y.4.ensures)
+          (λ y. y.1 ∙ arc_left_out _ _ _ _ y.0.left)
+          c.if-at-lt-ARC_ROOM.branch;
+    }

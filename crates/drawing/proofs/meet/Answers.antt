@@ -5,13 +5,12 @@ use mathlib.Core.Logic.{⊎_elim}
 use Rattle.drawing.proofs.Laws.{meeting_counted, meeting_put, meeting_left_out}
 use Rattle.drawing.proofs.meet.Goals as goal
 
-)
-
 pub returns : goal.returns
 returns c =
-    let told = (
-  meeting_counted _ _ c.sum.ensures,
-  ⊎_elim
-      (λ y. y.5 ∙ meeting_put _ _ _ _ y.0.taken _ _ y.2.ensures y.4.ensures)
-      (λ y. y.1 ∙ meeting_left_out _ _ _ _ y.0.left)
-      c.if-at-lt-MEETING_ROOM.branch, in record { value = told.0; track_after = told.1 }
+    record {
+      value = meeting_counted _ _ c.sum.ensures;
+      track_after = ⊎_elim
+          (λ y. y.5 ∙ meeting_put _ _ _ _ y.0.taken _ _ y.2.ensures y.4.ensures)
+          (λ y. y.1 ∙ meeting_left_out _ _ _ _ y.0.left)
+          c.if-at-lt-MEETING_ROOM.branch;
+    }

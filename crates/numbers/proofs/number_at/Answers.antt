@@ -3,11 +3,6 @@ use native.Mathlib.Omega.{arith}
 use Rattle.lines.specs.Line.{number_from}
 use Rattle.numbers.proofs.number_at.Goals as goal
 
-)
-
 pub returns : goal.returns
 unfolding number_from
-returns c =
-    let told = (
-  omega (arith, c.byte_at.ensures.value, c.byte_at-2.ensures.value),
-  omega (arith, c.byte_at.ensures.upper_bound, c.byte_at-2.ensures.upper_bound), in record { value = told.0; upper_bound = told.1 }
+returns c = record { value = omega (arith, c.byte_at.ensures.value, c.byte_at-2.ensures.value); upper_bound = omega (arith, c.byte_at.ensures.upper_bound, c.byte_at-2.ensures.upper_bound) }
