@@ -26,6 +26,7 @@ unfolding before
 lines_before c [] h no_lines = open_last (inline h none_inline)
 lines_before c (full cs ∷ ls) h (full_first t u) = full_first (inline h t) u
 lines_before c (open_ended (d ∷ cs) ∷ ls) h (open_last t) = open_last (inline h t)
+lines_before c (open_ended [] ∷ ls) h x6 = elim x6 [ ]
 
 pub lines_of : (t : List ℕ) → Lines (lines t)
 unfolding lines
@@ -59,6 +60,8 @@ unfolding joined lines
 joined_lines [] no_lines = refl
 joined_lines (full cs ∷ ls) (full_first t u) = rw (lines_full cs (joined ls) t, joined_lines ls u)
 joined_lines (open_ended (c ∷ cs) ∷ []) (open_last t) = ap lines (append-nil (c ∷ cs)) ∙ lines_open c cs t
+joined_lines (open_ended [] ∷ ls) x5 = elim x5 [ ]
+joined_lines (open_ended (c ∷ cs) ∷ (_ ∷ _)) x9 = elim x9 [ ]
 
 -- respelled lines are such lines, and no longer
 pub respelled_lines : (ls : List Raw) → Lines ls → Lines (map respelled_line ls)
@@ -68,6 +71,8 @@ respelled_lines (full cs ∷ ls) (full_first t u) =
     let r = respelled_full cs in
     rw r.1 (full_first (r.2.stays_inline t) (respelled_lines ls u))
 respelled_lines (open_ended (c ∷ cs) ∷ []) (open_last t) = rw (respelled_open (c ∷ cs)) (open_last t)
+respelled_lines (open_ended [] ∷ ls) x5 = elim x5 [ ]
+respelled_lines (open_ended (c ∷ cs) ∷ (_ ∷ _)) x9 = elim x9 [ ]
 
 pub joined_shorter : (ls : List Raw) → length (joined (map respelled_line ls)) ≤ length (joined ls)
 unfolding joined characters

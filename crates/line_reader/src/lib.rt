@@ -1,6 +1,5 @@
 // The line reader: a text, how its lines are spelled, and a cursor in it. It says what stands at the cursor, and hands out the
-// line's own characters as they stand in the text. It relies on the two line finders, and promises in their words. The borrow
-// checker covers no function over a struct that holds a reference: each is walked by hand, so they are few and thin.
+// line's own characters as they stand in the text. It relies on the two line finders, and promises in their words.
 #![tactic(auto)]
 
 ghost use Rattle.std.specs.Prelude.{◌≡◌, drop};
@@ -12,7 +11,7 @@ use desk_lines::find_desk_line;
 use lines::{Line, find_line, part_of};
 
 // How the lines of a text are spelled: strictly, as in a saved track, or as desks write them, as in a table or a script.
-#[derive(Drop)]
+#[derive(Clone, Copy)]
 pub enum Spelling {
     Strict,
     Desk,

@@ -10,14 +10,14 @@ pub returns-then-not-is_digit : goal.returns-then-not-is_digit
 returns-then-not-is_digit c =
     let s = c.args.text.now in
     let i = c.loop-i.i in
-    let other = sym (not-true _ c.if-not-is_digit.true) ∙ c.is_digit.ensures in
+    let other = sym c.if-not-is_digit.true ∙ c.is_digit.ensures in
     omega (arith, run_stops s i (search rules) other)
 
 pub loop-i-preserved : goal.loop-i-preserved
 loop-i-preserved c =
     let s = c.args.text.now in
     let i = c.loop-i.i in
-    let digit = sym (not-false _ c.if-not-is_digit.false) ∙ c.is_digit.ensures in
+    let digit = sym c.if-not-is_digit.false ∙ c.is_digit.ensures in
     omega (arith, run_goes_on s i (search rules) digit)
 
 pub returns : goal.returns

@@ -10,7 +10,9 @@ pub loop-i-init : goal.loop-i-init
 loop-i-init c = rw sub-zero
 
 pub returns-then-i-ge-ARC_ROOM : goal.returns-then-i-ge-ARC_ROOM
-returns-then-i-ge-ARC_ROOM c = let told = parts_kept _ _ _ (sym (joined_past _ _ _ _ _ _ _ c.if-i-ge-ARC_ROOM.true) ∙ c.loop-i.invariant) in record { value = told.0; track_after = told.1 }
+returns-then-i-ge-ARC_ROOM c =
+    let told = parts_kept _ _ _ (sym (joined_past _ _ _ _ _ _ _ c.if-i-ge-ARC_ROOM.true) ∙ c.loop-i.invariant) in
+    record { value = told.0; track_after = told.1 }
 
 pub overflow_mul-i : goal.overflow_mul-i
 overflow_mul-i c = omega arith
@@ -37,4 +39,6 @@ loop-i-preserved c =
     ∙ c.loop-i.invariant
 
 pub returns : goal.returns
-returns c = let told = parts_kept _ _ _ (sym (joined_end _ _ _ _ _ _ _ c.loop-i-test.false) ∙ c.loop-i.invariant) in record { value = told.0; track_after = told.1 }
+returns c =
+    let told = parts_kept _ _ _ (sym (joined_end _ _ _ _ _ _ _ c.loop-i-test.false) ∙ c.loop-i.invariant) in
+    record { value = told.0; track_after = told.1 }

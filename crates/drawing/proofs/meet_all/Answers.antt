@@ -16,4 +16,6 @@ loop-i-preserved c =
     c.event_node-node.ensures (c.meet_each-kept.ensures.value, c.meet_each-kept.ensures.track_after) ∙ c.loop-i.invariant
 
 pub returns : goal.returns
-returns c = let told = parts_kept _ _ _ (sym (met_all_end _ _ _ _ _ _ c.loop-i-test.false) ∙ c.loop-i.invariant) in record { value = told.0; track_after = told.1 }
+returns c =
+    let told = parts_kept _ _ _ (sym (met_all_end _ _ _ _ _ _ c.loop-i-test.false) ∙ c.loop-i.invariant) in
+    record { value = told.0; track_after = told.1 }

@@ -17,4 +17,6 @@ loop-i-preserved c =
     ∙ c.loop-i.invariant
 
 pub returns : goal.returns
-returns c = let told = parts_kept _ _ _ (sym (met_each_end _ _ _ _ _ c.loop-i-test.false) ∙ c.loop-i.invariant) in record { value = told.0; track_after = told.1 }
+returns c =
+    let told = parts_kept _ _ _ (sym (met_each_end _ _ _ _ _ c.loop-i-test.false) ∙ c.loop-i.invariant) in
+    record { value = told.0; track_after = told.1 }

@@ -3,25 +3,23 @@
 use mathlib.Core.Path.{◌≡◌, refl, sym, ap}
 use mathlib.Core.Bool.{false}
 use mathlib.Core.List.{[], ◌∷◌}
-use denote.Enum.Declared.{tag_of}
-use types.Run.{OneOf, miss}
+use Prim.Native.Nat.{ℕ}
 use Rattle.frames.specs.TableFrame.{closes}
 use Rattle.frames.specs.declared.Frame.{Frame}
 use Rattle.frames.specs.declared.Frame.TheVariants.{Opening, Definition, Term, Closing, Wrong}
-use Rattle.frames.specs.contracts.Frame.{the_type}
 use Rattle.frames.proofs.closes.Goals as goal
 
-not_last : (f : Frame) → OneOf (0 ∷ 1 ∷ 2 ∷ 4 ∷ []) (tag_of the_type f) → false ≡ closes f
+not_last : (f : Frame) → ((t : ℕ) → f ≡ Closing t → ⊥) → false ≡ closes f
 unfolding closes
 not_last Wrong h = refl
 not_last (Opening ed dd ee) h = refl
 not_last (Definition n) h = refl
 not_last (Term k p) h = refl
-not_last (Closing t) h = absurd (miss (0 ∷ 1 ∷ 2 ∷ 4 ∷ []) 3 tt h)
+not_last (Closing t) h = absurd (h t refl)
 
 pub returns-in-Closing : goal.returns-in-Closing
 unfolding closes
 returns-in-Closing c = sym (ap closes c.in-Closing.is)
 
 pub returns-in_default : goal.returns-in_default
-returns-in_default c = not_last _ c.in_default.keys2
+returns-in_default c = not_last _ c.in_default.not-Closing

@@ -38,4 +38,5 @@ pub returns : goal.returns
 returns c =
     let a = c.args in
     let n = columns a.kinds.now a.owners.now a.after.now a.roots.now in
-    let none_left = nodes_long_none n a.labels.now c.loop-k.k a.count c.loop-k-test.false in record { value = omega (arith, none_left); upper_bound = omega (arith, none_left, nodes_short n a.labels.now 0 a.count) }
+    let none_left = nodes_long_none n a.labels.now c.loop-k.k a.count c.loop-k-test.false in
+    record { value = omega (arith, none_left); upper_bound = omega (arith, none_left, nodes_short n a.labels.now 0 a.count) }

@@ -38,4 +38,5 @@ pub returns : goal.returns
 returns c =
     let a = c.args in
     let n = columns a.kinds.now a.owners.now a.after.now a.roots.now in
-    let lines = nodes_put n _ _ _ c.loop-k-test.false c.loop-k.invariant.1 in record { puts = lines; upper_bound = omega (arith, lines.ends, nodes_short n a.labels.now 0 a.count) }
+    let lines = nodes_put n _ _ _ c.loop-k-test.false c.loop-k.invariant.1 in
+    record { puts = lines; upper_bound = omega (arith, lines.ends, nodes_short n a.labels.now 0 a.count) }

@@ -29,4 +29,5 @@ returns c =
     let line =
     opening_spelt 0x30 1 _ _ _ c.put_byte-a.ensures c.put_byte-b.ensures c.put_number-c.ensures
     c.put_number-d.ensures c.put_number-e.ensures
-    c.put_end.ensures in record { puts = line; value = rw opening_long at line.ends }
+    c.put_end.ensures in
+    record { puts = line; value = rw opening_long at line.ends }

@@ -22,4 +22,6 @@ pub shape_of-out : goal.shape_of-out
 shape_of-out c = owed_length c.loop-i.invariant
 
 pub returns : goal.returns
-returns c = let lines = pairs_put _ _ _ _ _ c.loop-i-test.false c.loop-i.invariant in record { puts = lines; value = rw pairs_long at lines.ends }
+returns c =
+    let lines = pairs_put _ _ _ _ _ c.loop-i-test.false c.loop-i.invariant in
+    record { puts = lines; value = rw pairs_long at lines.ends }

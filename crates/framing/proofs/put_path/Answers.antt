@@ -13,11 +13,10 @@ put_byte-at-requires c =
     omega (arith, c.loop-i.invariant.1.lengths, digits_short a.count a.path.now)
 
 pub loop-i-preserved : goal.loop-i-preserved
-loop-i-preserved c =
-    (
-      omega arith,
-      digit_less _ _ _ c.loop-i-test.true (omega (arith, c.requires)) c.loop-i.invariant.1 c.put_byte-at.ensures,
-    )
+loop-i-preserved c = (
+  omega arith,
+  digit_less _ _ _ c.loop-i-test.true (omega (arith, c.requires)) c.loop-i.invariant.1 c.put_byte-at.ensures,
+)
 
 pub shape_of-out : goal.shape_of-out
 shape_of-out c = owed_length c.loop-i.invariant.1

@@ -8,7 +8,7 @@ use Rattle.spelling.proofs.Putting.{Owed}
 use Rattle.framing.proofs.put_path.Given as goal
 
 abbrev pub invariant-loop-i : goal.invariant-loop-i
-invariant-loop-i l =     (l.i ≤ l.count) × Owed (hex (take l.count l.path)) l.from l.initial.out (hex (slice l.i l.count l.path)) l.at l.out
+invariant-loop-i l = (l.i ≤ l.count) × Owed (hex (take l.count l.path)) l.from l.initial.out (hex (slice l.i l.count l.path)) l.at l.out
 
 abbrev pub decreases-loop-i : goal.decreases-loop-i
 decreases-loop-i l = l.count - l.i

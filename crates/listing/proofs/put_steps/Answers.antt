@@ -7,9 +7,6 @@ use Rattle.listing.proofs.put_steps.Goals as goal
 pub loop-event-init : goal.loop-event-init
 loop-event-init c = going_starts _ _ _ _ _ _ _
 
-pub enum_known-played : goal.enum_known-played
-enum_known-played c = c.in-Stepped.keys1
-
 pub shape_of-out-in_default : goal.shape_of-out-in_default
 shape_of-out-in_default c = going_length c.loop-event.invariant
 
@@ -17,7 +14,7 @@ pub returns-in_default : goal.returns-in_default
 returns-in_default c =
     let going = c.loop-event.invariant in
     let behind = (c.play-played.ensures.counters_after, c.play-played.ensures.digits_after, c.play-played.ensures.plays) in
-    going_stops going (behind.0, behind.1.0) c.in_default.keys2 c.stopped.ensures
+    going_stops going (behind.0, behind.1.0) c.in_default.in_default-own.keys2 c.stopped.ensures
     c.requires
 
 pub put_event-end-requires : goal.put_event-end-requires

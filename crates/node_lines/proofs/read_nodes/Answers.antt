@@ -8,15 +8,13 @@ use Rattle.node_lines.proofs.read_nodes.Goals as goal
 pub loop-k-init : goal.loop-k-init
 loop-k-init c = (omega arith, nodes_none _ _ _ _ _ _ _ _)
 
-pub enum_known-found : goal.enum_known-found
-enum_known-found c = c.in-Found.keys1
-
 pub returns-in_default : goal.returns-in_default
 returns-in_default c =
     let told = none_ends _ _ _ _ _ _ _ c.loop-k.invariant.1 c.loop-k-test.true
-    c.next_line-found.ensures (not_found _ c.in_default.keys2)
+    c.next_line-found.ensures c.in_default.not-Found
     c.refusal_of.ensures
-    (omega arith) in record { value = told.0; labels_after = told.1 }
+    (omega arith) in
+    record { value = told.0; labels_after = told.1 }
 
 pub returns-then-number-ne0 : goal.returns-then-number-ne0
 returns-then-number-ne0 c =
@@ -24,7 +22,8 @@ returns-then-number-ne0 c =
     c.characters-chars.ensures in let told = line_ends _ _ _ _ _ _ _ c.loop-k.invariant.1 c.loop-k-test.true i
     (c.node_refusal-number.ensures _)
     c.if-number-ne0.true
-    (omega arith) in record { value = told.0; labels_after = told.1 }
+    (omega arith) in
+    record { value = told.0; labels_after = told.1 }
 
 pub loop-k-preserved : goal.loop-k-preserved
 loop-k-preserved c =
@@ -36,4 +35,6 @@ loop-k-preserved c =
     (omega (arith, c.loop-k-test.true), turn)
 
 pub returns : goal.returns
-returns c = let told = all_read _ _ _ _ _ _ _ c.loop-k.invariant.1 c.loop-k.invariant.0 c.loop-k-test.false in record { value = told.0; labels_after = told.1 }
+returns c =
+    let told = all_read _ _ _ _ _ _ _ c.loop-k.invariant.1 c.loop-k.invariant.0 c.loop-k-test.false in
+    record { value = told.0; labels_after = told.1 }

@@ -8,7 +8,11 @@ use Rattle.offers.proofs.Runs.{run_tells}
 use Rattle.offers.proofs.offers.Goals as goal
 
 pub returns-then-reference-eq0 : goal.returns-then-reference-eq0
-returns-then-reference-eq0 c = let told = c.unseen.ensures ∙ offered_start _ _ _ _ c.if-reference-eq0.true in record { result_value = told; tells_offers = λ l P low is. run_tells l _ _ _ low _ P _ told is }
+returns-then-reference-eq0 c =
+    let told = c.unseen.ensures ∙ offered_start _ _ _ _ c.if-reference-eq0.true in
+    record { result_value = told; tells_offers = λ l P low is. run_tells l _ _ _ low _ P _ told is }
 
 pub returns : goal.returns
-returns c = let told = c.offers_at.ensures cell_room (omega arith) ∙ offered_there _ _ _ _ c.if-reference-eq0.false in record { result_value = told; tells_offers = λ l P low is. run_tells l _ _ _ low _ P _ told is }
+returns c =
+    let told = c.offers_at.ensures cell_room (omega arith) ∙ offered_there _ _ _ _ c.if-reference-eq0.false in
+    record { result_value = told; tells_offers = λ l P low is. run_tells l _ _ _ low _ P _ told is }

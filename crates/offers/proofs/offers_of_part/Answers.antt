@@ -6,4 +6,6 @@ use Rattle.offers.proofs.Runs.{part_tells}
 use Rattle.offers.proofs.offers_of_part.Goals as goal
 
 pub returns : goal.returns
-returns c = let told = c.offers_at.ensures cell_room (omega arith) in record { result_value = told; tells_offers = λ l P low is. part_tells l _ _ _ low _ _ _ P _ told is }
+returns c =
+    let told = c.offers_at.ensures cell_room (omega arith) in
+    record { result_value = told; tells_offers = λ l P low is. part_tells l _ _ _ low _ _ _ P _ told is }

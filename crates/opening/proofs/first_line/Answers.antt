@@ -6,12 +6,9 @@ use Rattle.opening.proofs.Tested.{opening_length, opening_tag, opening_read}
 use Rattle.opening.proofs.Turns.{held_line, opened_none, opened_stops, opened_outside, opened_inside}
 use Rattle.opening.proofs.first_line.Goals as goal
 
-pub enum_known-line : goal.enum_known-line
-enum_known-line c = c.in-Found.keys1
-
 pub returns-in_default : goal.returns-in_default
 returns-in_default c =
-    opened_none _ c.next_line-line.ensures (not_found _ c.in_default.keys2)
+    opened_none _ c.next_line-line.ensures c.in_default.not-Found
     c.refusal_of.ensures
 
 pub returns-then-chars-ne8 : goal.returns-then-chars-ne8

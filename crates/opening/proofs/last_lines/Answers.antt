@@ -5,12 +5,9 @@ use Rattle.opening.proofs.Tested.{last_length, last_tag, last_fits}
 use Rattle.opening.proofs.Turns.{held_line, last_none, last_stops, last_goes}
 use Rattle.opening.proofs.last_lines.Goals as goal
 
-pub enum_known-found : goal.enum_known-found
-enum_known-found c = c.in-Found.keys1
-
 pub returns-in_default : goal.returns-in_default
 returns-in_default c =
-    last_none _ _ _ c.next_line-found.ensures (not_found _ c.in_default.keys2)
+    last_none _ _ _ c.next_line-found.ensures c.in_default.not-Found
     c.refusal_of.ensures
 
 pub returns-then-chars-ne1 : goal.returns-then-chars-ne1

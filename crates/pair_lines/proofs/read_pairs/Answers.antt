@@ -9,15 +9,13 @@ use Rattle.pair_lines.proofs.read_pairs.Goals as goal
 pub loop-i-init : goal.loop-i-init
 loop-i-init c = (omega arith, pairs_none _ _ _ _ _ _ _ _)
 
-pub enum_known-found : goal.enum_known-found
-enum_known-found c = c.in-Found.keys1
-
 pub returns-in_default : goal.returns-in_default
 returns-in_default c =
     let told = none_ends _ _ _ _ _ _ _ c.loop-i.invariant.1 c.loop-i-test.true
-    c.next_line-found.ensures (not_found _ c.in_default.keys2)
+    c.next_line-found.ensures c.in_default.not-Found
     c.refusal_of.ensures
-    refl in record { value = told.0; graph_after = told.1 }
+    refl in
+    record { value = told.0; graph_after = told.1 }
 
 pub returns-then-number-ne0 : goal.returns-then-number-ne0
 returns-then-number-ne0 c =
@@ -25,7 +23,8 @@ returns-then-number-ne0 c =
     c.characters-chars.ensures in let told = line_ends _ _ _ _ _ _ _ c.loop-i.invariant.1 c.loop-i-test.true i
     c.pair_refusal-number.ensures
     c.if-number-ne0.true
-    refl in record { value = told.0; graph_after = told.1 }
+    refl in
+    record { value = told.0; graph_after = told.1 }
 
 pub loop-i-preserved : goal.loop-i-preserved
 loop-i-preserved c =
@@ -39,4 +38,6 @@ loop-i-preserved c =
     )
 
 pub returns : goal.returns
-returns c = let told = all_read _ _ _ _ _ _ _ c.loop-i.invariant.1 c.loop-i.invariant.0 c.loop-i-test.false in record { value = told.0; graph_after = told.1 }
+returns c =
+    let told = all_read _ _ _ _ _ _ _ c.loop-i.invariant.1 c.loop-i.invariant.0 c.loop-i-test.false in
+    record { value = told.0; graph_after = told.1 }

@@ -5,13 +5,21 @@ use Rattle.pairing.proofs.Renumbering.{no_first, no_second, both_turned, both_st
 use Rattle.pairing.proofs.keep.Goals as goal
 
 pub returns-then-first-eq0 : goal.returns-then-first-eq0
-returns-then-first-eq0 c = let told = no_first _ _ _ _ _ _ c.if-first-eq0.true in record { value = told.0; to_after = told.1 }
+returns-then-first-eq0 c =
+    let told = no_first _ _ _ _ _ _ c.if-first-eq0.true in
+    record { value = told.0; to_after = told.1 }
 
 pub returns-then-second-eq0 : goal.returns-then-second-eq0
-returns-then-second-eq0 c = let told = no_second _ _ _ _ _ _ c.if-second-eq0.true in record { value = told.0; to_after = told.1 }
+returns-then-second-eq0 c =
+    let told = no_second _ _ _ _ _ _ c.if-second-eq0.true in
+    record { value = told.0; to_after = told.1 }
 
 pub returns-then-high-low : goal.returns-then-high-low
-returns-then-high-low c = let one = c.if-first-eq0.false in let told = both_turned _ _ _ _ _ _ one c.if-second-eq0.false c.if-either.true c.if-high-low.true in record { value = told.0; to_after = told.1 }
+returns-then-high-low c =
+    let one = c.if-first-eq0.false in let told = both_turned _ _ _ _ _ _ one c.if-second-eq0.false c.if-either.true c.if-high-low.true in
+    record { value = told.0; to_after = told.1 }
 
 pub returns : goal.returns
-returns c = let straight = ⊎_elim (λ w. inr w.1.left) (λ w. inl w.left) c.if-either.branch in let told = both_straight _ _ _ _ _ _ c.if-first-eq0.false c.if-second-eq0.false straight in record { value = told.0; to_after = told.1 }
+returns c =
+    let straight = ⊎_elim (λ w. inr w.1.left) (λ w. inl w.left) c.if-either.branch in let told = both_straight _ _ _ _ _ _ c.if-first-eq0.false c.if-second-eq0.false straight in
+    record { value = told.0; to_after = told.1 }

@@ -6,32 +6,38 @@ use mathlib.Core.Path.{◌∙◌}
 use Rattle.parts.proofs.standing_in.Goals as goal
 
 pub returns-then-part-eq0 : goal.returns-then-part-eq0
-returns-then-part-eq0 c = let told = standing_promised _ _ _ _ (stands_waiting _ _ _ _ c.if-part-eq0.true c.of_term.ensures) in record { value = told.0; standing_told = told.1 }
+returns-then-part-eq0 c =
+    let told = standing_promised _ _ _ _ (stands_waiting _ _ _ _ c.if-part-eq0.true c.of_term.ensures) in
+    record { value = told.0; standing_told = told.1 }
 
 pub returns-then-state-eq-UNTOUCHED : goal.returns-then-state-eq-UNTOUCHED
 returns-then-state-eq-UNTOUCHED c =
     let told = standing_promised _ _ _ _
     (stands_there _ _ _ _ c.if-part-eq0.false
     (there_stands _ _ _ _ _ _ c.word-state.ensures c.word-term.ensures
-    (c.of_term-then-state-eq-UNTOUCHED.ensures ∙ state_resting _ _ _ c.if-state-eq-UNTOUCHED.true))) in record { value = told.0; standing_told = told.1 }
+    (c.of_term-then-state-eq-UNTOUCHED.ensures ∙ state_resting _ _ _ c.if-state-eq-UNTOUCHED.true))) in
+    record { value = told.0; standing_told = told.1 }
 
 pub returns-then-state-eq-ENTERED : goal.returns-then-state-eq-ENTERED
 returns-then-state-eq-ENTERED c =
     let told = standing_promised _ _ _ _
     (stands_there _ _ _ _ c.if-part-eq0.false
     (there_stands _ _ _ _ _ _ c.word-state.ensures c.word-term.ensures
-    (state_entered _ _ _ c.if-state-eq-ENTERED.true))) in record { value = told.0; standing_told = told.1 }
+    (state_entered _ _ _ c.if-state-eq-ENTERED.true))) in
+    record { value = told.0; standing_told = told.1 }
 
 pub returns-then-state-eq-OMEGA : goal.returns-then-state-eq-OMEGA
 returns-then-state-eq-OMEGA c =
     let told = standing_promised _ _ _ _
     (stands_there _ _ _ _ c.if-part-eq0.false
     (there_stands _ _ _ _ _ _ c.word-state.ensures c.word-term.ensures
-    (state_ended _ _ _ c.if-state-eq-OMEGA.true))) in record { value = told.0; standing_told = told.1 }
+    (state_ended _ _ _ c.if-state-eq-OMEGA.true))) in
+    record { value = told.0; standing_told = told.1 }
 
 pub returns : goal.returns
 returns c =
     let told = standing_promised _ _ _ _
     (stands_there _ _ _ _ c.if-part-eq0.false
     (there_stands _ _ _ _ _ _ c.word-state.ensures c.word-term.ensures
-    (state_dead _ _ _ c.if-state-eq-UNTOUCHED.false c.if-state-eq-ENTERED.false c.if-state-eq-OMEGA.false))) in record { value = told.0; standing_told = told.1 }
+    (state_dead _ _ _ c.if-state-eq-UNTOUCHED.false c.if-state-eq-ENTERED.false c.if-state-eq-OMEGA.false))) in
+    record { value = told.0; standing_told = told.1 }

@@ -7,10 +7,14 @@ use Rattle.places.proofs.Literals.{event_none, event_astray, event_room, event_e
 use Rattle.places.proofs.event_to.Goals as goal
 
 pub returns-then-kind-ne-PREFIX : goal.returns-then-kind-ne-PREFIX
-returns-then-kind-ne-PREFIX c = let told = event_none (columns _ _ _ _) _ _ (λ e. c.if-kind-ne-PREFIX.true (c.kind_of-kind.ensures ∙ e)) in record { value = told.0; path_after = told.1 }
+returns-then-kind-ne-PREFIX c =
+    let told = event_none (columns _ _ _ _) _ _ (λ e. c.if-kind-ne-PREFIX.true (c.kind_of-kind.ensures ∙ e)) in
+    record { value = told.0; path_after = told.1 }
 
 pub returns-in_default : goal.returns-in_default
-returns-in_default c = let is = sym c.kind_of-kind.ensures ∙ c.if-kind-ne-PREFIX.false in let told = event_astray (columns _ _ _ _) _ _ is _ _ (c.path_to-reached.ensures.value, c.path_to-reached.ensures.path_after) c.in_default.is in record { value = told.0; path_after = told.1 }
+returns-in_default c =
+    let is = sym c.kind_of-kind.ensures ∙ c.if-kind-ne-PREFIX.false in let told = event_astray (columns _ _ _ _) _ _ is _ _ (c.path_to-reached.ensures.value, c.path_to-reached.ensures.path_after) c.in_default.is in
+    record { value = told.0; path_after = told.1 }
 
 pub bounds-path-length : goal.bounds-path-length
 bounds-path-length c =
@@ -25,4 +29,5 @@ overflow_add-result c = omega (arith, element-write-path c)
 pub returns : goal.returns
 returns c =
     let is = sym c.kind_of-kind.ensures ∙ c.if-kind-ne-PREFIX.false in
-    let at = c.in-Ends.is in let told = event_ends (columns _ _ _ _) _ _ is _ _ (c.path_to-reached.ensures.value, c.path_to-reached.ensures.path_after) _ at in record { value = told.0; path_after = told.1 }
+    let at = c.in-Ends.is in let told = event_ends (columns _ _ _ _) _ _ is _ _ (c.path_to-reached.ensures.value, c.path_to-reached.ensures.path_after) _ at in
+    record { value = told.0; path_after = told.1 }

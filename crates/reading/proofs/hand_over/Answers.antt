@@ -15,4 +15,5 @@ returns c =
       w.2 ∙ sym (handed_old _ _ w.1.given.1),
       (w.3 ∙ sym (handed_old _ _ w.1.given.1), (refl, refl)),
     ))
-    c.match-judged.branch in record { labels_after = told.0; graph_after = told.1; marks_after = told.2; track_after = told.3 }
+    c.match-judged.branch in
+    record { labels_after = told.0; graph_after = told.1; marks_after = told.2; track_after = told.3 }

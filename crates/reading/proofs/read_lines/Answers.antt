@@ -6,9 +6,6 @@ use Rattle.reading.proofs.Gone.{counts, at_nodes, at_arcs, at_meetings, at_last}
 use Rattle.reading.proofs.Gone.{failed_done, stopped_done, all_done}
 use Rattle.reading.proofs.read_lines.Goals as goal
 
-pub enum_known-opened : goal.enum_known-opened
-enum_known-opened c = c.in-Track.keys1
-
 pub returns-in_default : goal.returns-in_default
 returns-in_default c =
     failed_done _ _ _ _ _ _ _ c.first_line-opened.ensures c.in_default.is
@@ -16,9 +13,6 @@ returns-in_default c =
 
 pub read_nodes-by_nodes-requires : goal.read_nodes-by_nodes-requires
 read_nodes-by_nodes-requires c = (counts _ c.first_line-opened.ensures c.in-Track.is).nodes_fit
-
-pub enum_known-by_nodes : goal.enum_known-by_nodes
-enum_known-by_nodes c = c.in-Goes.keys1
 
 pub returns-in_default-by_nodes : goal.returns-in_default-by_nodes
 returns-in_default-by_nodes c =
@@ -35,9 +29,6 @@ pub read_pairs-by_arcs-requires : goal.read_pairs-by_arcs-requires
 read_pairs-by_arcs-requires c =
     let n = counts _ c.first_line-opened.ensures c.in-Track.is in
     (omega (arith, n.arcs_fit), omega (arith, n.nodes_fit))
-
-pub enum_known-by_arcs : goal.enum_known-by_arcs
-enum_known-by_arcs c = c.in-Goes-by_arcs.keys1
 
 pub returns-in_default-by_arcs : goal.returns-in_default-by_arcs
 returns-in_default-by_arcs c =
@@ -61,9 +52,6 @@ pub read_pairs-by_meetings-requires : goal.read_pairs-by_meetings-requires
 read_pairs-by_meetings-requires c =
     let n = counts _ c.first_line-opened.ensures c.in-Track.is in
     (omega (arith, n.meetings_fit), omega (arith, n.nodes_fit, n.arcs_fit))
-
-pub enum_known-by_meetings : goal.enum_known-by_meetings
-enum_known-by_meetings c = c.in-Goes-by_meetings.keys1
 
 pub returns-in_default-by_meetings : goal.returns-in_default-by_meetings
 returns-in_default-by_meetings c =

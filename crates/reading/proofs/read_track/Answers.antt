@@ -7,4 +7,5 @@ pub returns : goal.returns
 returns c =
     let judged = (c.judge-judged.ensures.held, c.judge-judged.ensures.sides_after, c.judge-judged.ensures.pending_after, c.judge-judged.ensures.numbers_after, c.judge-judged.ensures.walked_after) in
     let over = (c.hand_over.ensures.labels_after, c.hand_over.ensures.graph_after, c.hand_over.ensures.marks_after, c.hand_over.ensures.track_after) in
-    let left = handed_over _ _ _ _ _ _ _ _ judged.0 over.0 over.1.0 in let told = (left, (reads _ _ _ _ _ _ _ _ _ _ _ left, (over.1.1.0, (over.1.1.1, judged.1)))) in record { graph_after = told.0; reads = told.1; marks_after = told.2; track_after = told.3; sides_after = told.4; pending_after = told.5; numbers_after = told.6; walked_after = told.7 }
+    let left = handed_over _ _ _ _ _ _ _ _ judged.0 over.0 over.1.0 in let told = (left, (reads _ _ _ _ _ _ _ _ _ _ _ left, (over.1.1.0, (over.1.1.1, judged.1)))) in
+    record { graph_after = told.0; reads = told.1; marks_after = told.2; track_after = told.3; sides_after = told.4; pending_after = told.5; numbers_after = told.6; walked_after = told.7 }

@@ -3,14 +3,8 @@
 use Rattle.refusals.proofs.Cursor.{opened_none, opened_other, opened_first}
 use Rattle.refusals.proofs.first_line.Goals as goal
 
-pub enum_known-line : goal.enum_known-line
-enum_known-line c = c.in-Found.keys1
-
 pub returns-in_default : goal.returns-in_default
-returns-in_default c = opened_none _ 0 c.next_line-line.ensures c.in_default.keys2 c.refusal_of.ensures
-
-pub enum_known-frame : goal.enum_known-frame
-enum_known-frame c = c.in-Opening.keys1
+returns-in_default c = opened_none _ 0 c.next_line-line.ensures c.in_default.in_default-own.keys2 c.refusal_of.ensures
 
 pub returns-in_default-frame : goal.returns-in_default-frame
 returns-in_default-frame c =
@@ -18,7 +12,7 @@ returns-in_default-frame c =
     c.in-Found.is
     c.characters.ensures
     c.read_frame-frame.ensures
-    c.in_default-frame.keys2
+    c.in_default-frame.in_default-frame-own.keys2
 
 pub returns-then-opening_outside : goal.returns-then-opening_outside
 returns-then-opening_outside c =

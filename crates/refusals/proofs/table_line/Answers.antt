@@ -4,11 +4,8 @@ use Rattle.frames.specs.TableFrame.{refusal}
 use Rattle.refusals.proofs.Cursor.{said_none, said_stops, said_goes}
 use Rattle.refusals.proofs.table_line.Goals as goal
 
-pub enum_known-line : goal.enum_known-line
-enum_known-line c = c.in-Found.keys1
-
 pub returns-in_default : goal.returns-in_default
-returns-in_default c = said_none _ _ c.next_line-line.ensures c.in_default.keys2 _ c.refusal_of.ensures
+returns-in_default c = said_none _ _ c.next_line-line.ensures c.in_default.in_default-own.keys2 _ c.refusal_of.ensures
 
 pub returns-then-number-ne0 : goal.returns-then-number-ne0
 returns-then-number-ne0 c =

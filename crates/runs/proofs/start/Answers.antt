@@ -5,4 +5,6 @@ use Rattle.runs.proofs.Promises.{begins}
 use Rattle.runs.proofs.start.Goals as goal
 
 pub returns : goal.returns
-returns c = let told = (refl, (refl, (refl, begins _ _ _ refl refl refl))) in record { nodes_after = told.0; track_after = told.1; counters_after = told.2; begins = told.3 }
+returns c =
+    let told = (refl, (refl, (refl, begins _ _ _ refl refl refl))) in
+    record { nodes_after = told.0; track_after = told.1; counters_after = told.2; begins = told.3 }

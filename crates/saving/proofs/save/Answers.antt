@@ -18,4 +18,5 @@ returns c =
         refl,
         (refl, (refl, (scratch.0, (scratch.1.0, (scratch.1.1.0, (scratch.1.1.1, done.1)))))),
       ),
-    ) in record { text_after = told.0; labels_after = told.1; graph_after = told.2; marks_after = told.3; sides_after = told.4; pending_after = told.5; numbers_after = told.6; spare_after = told.7; saves = told.8 }
+    ) in
+    record { text_after = told.0; labels_after = told.1; graph_after = told.2; marks_after = told.3; sides_after = told.4; pending_after = told.5; numbers_after = told.6; spare_after = told.7; saves = told.8 }

@@ -27,12 +27,12 @@ pub returns-then-not-digits_fit : goal.returns-then-not-digits_fit
 returns-then-not-digits_fit c =
     let tagged = sym c.byte.ensures ∙ c.if-byte-ne-STEP_FRAME.false in
     let told = sym c.number.ensures ∙ c.if-number-count.false in
-    let fit = sym c.digits_fit.ensures ∙ not-true _ c.if-not-digits_fit.true in
+    let fit = sym c.digits_fit.ensures ∙ c.if-not-digits_fit.true in
     other_digit _ c.if-n-lt-HEAD.false tagged told c.if-count-gt-DIGIT_ROOM.false fit
 
 pub returns : goal.returns
 returns c =
     let tagged = sym c.byte.ensures ∙ c.if-byte-ne-STEP_FRAME.false in
     let told = sym c.number.ensures ∙ c.if-number-count.false in
-    let fit = sym c.digits_fit.ensures ∙ not-false _ c.if-not-digits_fit.false in
+    let fit = sym c.digits_fit.ensures ∙ c.if-not-digits_fit.false in
     step_asked _ c.if-n-lt-HEAD.false tagged told c.if-count-gt-DIGIT_ROOM.false fit

@@ -13,4 +13,5 @@ returns c =
           c.in_order-ordered.ensures c.at_most-count.ensures c.ascend-2.ensures
           c.join_events.ensures,
       (refl, (c.walk-reached.ensures.pending_after, (refl, refl))),
-    ) in record { value = told.0; sides_after = told.1; pending_after = told.2; numbers_after = told.3; walked_after = told.4 }
+    ) in
+    record { value = told.0; sides_after = told.1; pending_after = told.2; numbers_after = told.3; walked_after = told.4 }

@@ -7,4 +7,5 @@ returns c =
     let told = entered_made _ _ _ _ _ _ _ _ _ _
     c.put.ensures
     c.put-2.ensures c.put-3.ensures
-    c.own_mark.ensures (c.label.ensures.value, c.label.ensures.nodes_after) in record { value = told.0; nodes_after = told.1 }
+    c.own_mark.ensures (c.label.ensures.value, c.label.ensures.nodes_after) in
+    record { value = told.0; nodes_after = told.1 }

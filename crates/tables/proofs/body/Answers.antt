@@ -9,9 +9,6 @@ use Rattle.tables.proofs.body.Goals as goal
 pub loop-frame-init : goal.loop-frame-init
 loop-frame-init c = going_starts _ _ _ _ _ _ _ _ c.requires
 
-pub enum_known-said : goal.enum_known-said
-enum_known-said c = c.in-Goes.keys1
-
 pub returns-in_default : goal.returns-in_default
 returns-in_default c =
     let stops = stops_is _ _ _ c.in_default.is c.stop_of.ensures in

@@ -5,7 +5,9 @@ use Rattle.track_parts.proofs.Laws.{save_untouched, save_written, work_untouched
 use Rattle.track_parts.proofs.save_parts.Goals as goal
 
 pub returns-then-unready-ne-DONE : goal.returns-then-unready-ne-DONE
-returns-then-unready-ne-DONE c = let told = c.unready-unready.ensures in record { text_after = save_untouched _ _ _ told _ _ _ _ _ _ _ _ _ c.if-unready-ne-DONE.true; spare_after = work_untouched _ _ _ told _ c.if-unready-ne-DONE.true }
+returns-then-unready-ne-DONE c =
+    let told = c.unready-unready.ensures in
+    record { text_after = save_untouched _ _ _ told _ _ _ _ _ _ _ _ _ c.if-unready-ne-DONE.true; spare_after = work_untouched _ _ _ told _ c.if-unready-ne-DONE.true }
 
 pub returns : goal.returns
 returns c =

@@ -13,13 +13,13 @@ returns-in_default-right c = both_half _ _ _ _ _ _ _ _ c.in-Derived.is c.in_defa
 
 pub returns-then-not-agree : goal.returns-then-not-agree
 returns-then-not-agree c =
-    let apart = sym c.agree.ensures ∙ not-true _ c.if-not-agree.true in
+    let apart = sym c.agree.ensures ∙ c.if-not-agree.true in
     both_apart _ _ _ _ _ _ _ _ c.in-Derived.is _ c.in-Derived-right.is
     apart
 
 pub returns : goal.returns
 returns c =
-    let met = sym c.agree.ensures ∙ not-false _ c.if-not-agree.false in
+    let met = sym c.agree.ensures ∙ c.if-not-agree.false in
     both_meet _ _ _ _ _ _ _ _ c.in-Derived.is _ c.in-Derived-right.is
     met _ _ _ _ _ _ _ _ _ _ c.less.ensures
     c.less-rest.ensures c.sum.ensures c.sum-2.ensures

@@ -5,9 +5,9 @@ use Rattle.marks.proofs.Laws.{event_small}
 use Rattle.marks.proofs.path.event_end.Goals as goal
 
 pub returns-then-not-ends : goal.returns-then-not-ends
-returns-then-not-ends c = rw (not-true c.args.ends c.if-not-ends.true)
+returns-then-not-ends c = rw c.if-not-ends.true
 
 pub returns : goal.returns
 returns c =
-    rw (not-false c.args.ends c.if-not-ends.false)
+    rw c.if-not-ends.false
     (omega (arith, c.event_mark.ensures, event_small c.args.term))

@@ -8,13 +8,19 @@ pub loop-here-init : goal.loop-here-init
 loop-here-init c = way_begun _ _ _ _ _ _
 
 pub returns-then-here-to : goal.returns-then-here-to
-returns-then-here-to c = let told = way_done _ _ _ _ _ _ _ _ _ _ c.loop-here.invariant c.if-here-to.true in record { value = told.0; path_after = told.1 }
+returns-then-here-to c =
+    let told = way_done _ _ _ _ _ _ _ _ _ _ c.loop-here.invariant c.if-here-to.true in
+    record { value = told.0; path_after = told.1 }
 
 pub returns-then-most-depth : goal.returns-then-most-depth
-returns-then-most-depth c = let told = way_short _ _ _ _ _ _ _ _ _ _ c.loop-here.invariant c.if-here-to.false c.if-most-depth.true in record { value = told.0; path_after = told.1 }
+returns-then-most-depth c =
+    let told = way_short _ _ _ _ _ _ _ _ _ _ c.loop-here.invariant c.if-here-to.false c.if-most-depth.true in
+    record { value = told.0; path_after = told.1 }
 
 pub returns-then-count-eq0 : goal.returns-then-count-eq0
-returns-then-count-eq0 c = let count = c.subterms-count.ensures ∙ ap subterms c.kind_of.ensures in let told = way_leaf _ _ _ _ _ _ _ _ _ _ c.loop-here.invariant c.if-here-to.false (sym count ∙ c.if-count-eq0.true) in record { value = told.0; path_after = told.1 }
+returns-then-count-eq0 c =
+    let count = c.subterms-count.ensures ∙ ap subterms c.kind_of.ensures in let told = way_leaf _ _ _ _ _ _ _ _ _ _ c.loop-here.invariant c.if-here-to.false (sym count ∙ c.if-count-eq0.true) in
+    record { value = told.0; path_after = told.1 }
 
 pub step_to-step-requires : goal.step_to-step-requires
 step_to-step-requires c =
