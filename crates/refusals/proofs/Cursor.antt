@@ -10,13 +10,10 @@ use native.Mathlib.Omega.{arith}
 use lib.ListN.{length, drop}
 use lib.Dec.{eqb}
 use borrow.Author.Tests.{eq-eqb, ne_eqb}
-use denote.Enum.Declared.{tag_of}
-use types.Run.{OneOf, miss}
 use Rattle.lines.specs.Line.{choose, Raw, lines, bytes, characters, refusal}
 use Rattle.lines.specs.code.Characters.{part}
 use Rattle.lines.specs.declared.Line.{Line}
 use Rattle.lines.specs.declared.Line.TheVariants.{Found, NoLine, End}
-use Rattle.lines.specs.contracts.Line as line
 use Rattle.lines.proofs.Laws.{not_a_line, none_left}
 use Rattle.desk_lines.specs.DeskLine.{small, desk_form, desk_frame, desk_answer}
 use Rattle.desk_lines.proofs.Laws.{DeskLine, desk_line}
@@ -28,14 +25,13 @@ use Rattle.frames.specs.declared.Frame.{Frame}
 use Rattle.frames.specs.declared.Frame.TheVariants.{Opening, Definition, Term, Closing, Wrong}
 use Rattle.refusals.specs.declared.Said.TheVariants.{Goes, Stops}
 use Rattle.refusals.specs.declared.TableOpened.TheVariants.{Table, Fails}
-use Rattle.frames.specs.contracts.Frame as frame-type
 
 -- an answer other than a found line, and a frame other than line 1's
 abbrev pub NotFound : Line → Type 0
-NotFound l = OneOf (1 ∷ 2 ∷ []) (tag_of line.the_type l)
+NotFound l = (e n : ℕ) → l ≡ Found e n → ⊥
 
 abbrev pub NotOpening : Frame → Type 0
-NotOpening f = OneOf (1 ∷ 2 ∷ 3 ∷ 4 ∷ []) (tag_of frame-type.the_type f)
+NotOpening f = (ed dd ee : ℕ) → f ≡ Opening ed dd ee → ⊥
 
 -- no line: 1 where there is something else, and 2 where there is nothing
 no_line : {A : Type 0} (told : ℕ → A) (of : List Raw → A) → told 2 ≡ of []
@@ -43,7 +39,7 @@ no_line : {A : Type 0} (told : ℕ → A) (of : List Raw → A) → told 2 ≡ o
     → (s : List ℕ) (at : ℕ) (l : Line) → l ≡ desk_answer at (lines (drop at s)) → NotFound l
     → told (refusal l) ≡ of (lines (drop at s))
 unfolding refusal
-no_line told of nothing broken s at (Found e n) q h = absurd (miss (1 ∷ 2 ∷ []) 0 tt h)
+no_line told of nothing broken s at (Found e n) q h = absurd (h e n refl)
 no_line told of nothing broken s at NoLine q h =
     let r = not_a_line desk_form s at (sym q) in
     broken r.line r.others r.broken ∙ ap of (sym r.first)
@@ -91,7 +87,7 @@ opens_first n ed dd ee e h = rw (← h, e) (swapped (eqb (first_refusal (Opening
 
 opens_other : (n : ℕ) (f : Frame) → NotOpening f → Fails 2 ≡ opens n f
 unfolding opens
-opens_other n (Opening ed dd ee) h = absurd (miss (1 ∷ 2 ∷ 3 ∷ 4 ∷ []) 0 tt h)
+opens_other n (Opening ed dd ee) h = absurd (h ed dd ee refl)
 opens_other n (Definition k) h = refl
 opens_other n (Term k p) h = refl
 opens_other n (Closing t) h = refl

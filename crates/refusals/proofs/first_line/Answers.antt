@@ -4,7 +4,7 @@ use Rattle.refusals.proofs.Cursor.{opened_none, opened_other, opened_first}
 use Rattle.refusals.proofs.first_line.Goals as goal
 
 pub returns-in_default : goal.returns-in_default
-returns-in_default c = opened_none _ 0 c.next_line-line.ensures c.in_default.in_default-own.keys2 c.refusal_of.ensures
+returns-in_default c = opened_none _ 0 c.next_line-line.ensures c.in_default.not-Found c.refusal_of.ensures
 
 pub returns-in_default-frame : goal.returns-in_default-frame
 returns-in_default-frame c =
@@ -12,7 +12,7 @@ returns-in_default-frame c =
     c.in-Found.is
     c.characters.ensures
     c.read_frame-frame.ensures
-    c.in_default-frame.in_default-frame-own.keys2
+    c.in_default-frame.not-Opening
 
 pub returns-then-opening_outside : goal.returns-then-opening_outside
 returns-then-opening_outside c =

@@ -5,7 +5,7 @@ use Rattle.refusals.proofs.Cursor.{said_none, said_stops, said_goes}
 use Rattle.refusals.proofs.table_line.Goals as goal
 
 pub returns-in_default : goal.returns-in_default
-returns-in_default c = said_none _ _ c.next_line-line.ensures c.in_default.in_default-own.keys2 _ c.refusal_of.ensures
+returns-in_default c = said_none _ _ c.next_line-line.ensures c.in_default.not-Found _ c.refusal_of.ensures
 
 pub returns-then-number-ne0 : goal.returns-then-number-ne0
 returns-then-number-ne0 c =
