@@ -42,25 +42,29 @@ pub returns-in-Term : goal.returns-in-Term
 unfolding seen_then waiting_then roots_then column_then
 returns-in-Term c =
     let owes = (c.owe.ensures.value, c.owe.ensures.waiting_after) in
-    rw c.in let told = -Term.is (owes.0, (owes.1, (refl, (refl, (refl, refl))))) in
-    record { value = told.0; waiting_after = told.1; kinds_after = told.2; payloads_after = told.3; owners_after = told.4; roots_after = told.5 }
+    let told = rw c.in-Term.is (owes.0, (owes.1, (refl, (refl, (refl, refl))))) in
+    record { value = told.0; waiting_after = told.1.0; kinds_after = told.1.1.0; payloads_after = told.1.1.1.0; owners_after = told.1.1.1.1.0; roots_after = told.1.1.1.1.1 }
 
 pub returns-in-Definition : goal.returns-in-Definition
 unfolding seen_then waiting_then roots_then column_then
-returns-in-Definition c = rw c.in let told = -Definition.is (c.begin.ensures, (refl, (refl, (refl, (refl, refl))))) in
-    record { value = told.0; waiting_after = told.1; kinds_after = told.2; payloads_after = told.3; owners_after = told.4; roots_after = told.5 }
+returns-in-Definition c =
+    let told = rw c.in-Definition.is (c.begin.ensures, (refl, (refl, (refl, (refl, refl))))) in
+    record { value = told.0; waiting_after = told.1.0; kinds_after = told.1.1.0; payloads_after = told.1.1.1.0; owners_after = told.1.1.1.1.0; roots_after = told.1.1.1.1.1 }
 
 pub returns-in-Opening : goal.returns-in-Opening
 unfolding seen_then waiting_then roots_then column_then
-returns-in-Opening c = rw c.in let told = -Opening.is (refl, (refl, (refl, (refl, (refl, refl))))) in
-    record { value = told.0; waiting_after = told.1; kinds_after = told.2; payloads_after = told.3; owners_after = told.4; roots_after = told.5 }
+returns-in-Opening c =
+    let told = rw c.in-Opening.is (refl, (refl, (refl, (refl, (refl, refl))))) in
+    record { value = told.0; waiting_after = told.1.0; kinds_after = told.1.1.0; payloads_after = told.1.1.1.0; owners_after = told.1.1.1.1.0; roots_after = told.1.1.1.1.1 }
 
 pub returns-in-Closing : goal.returns-in-Closing
 unfolding seen_then waiting_then roots_then column_then
-returns-in-Closing c = rw c.in let told = -Closing.is (refl, (refl, (refl, (refl, (refl, refl))))) in
-    record { value = told.0; waiting_after = told.1; kinds_after = told.2; payloads_after = told.3; owners_after = told.4; roots_after = told.5 }
+returns-in-Closing c =
+    let told = rw c.in-Closing.is (refl, (refl, (refl, (refl, (refl, refl))))) in
+    record { value = told.0; waiting_after = told.1.0; kinds_after = told.1.1.0; payloads_after = told.1.1.1.0; owners_after = told.1.1.1.1.0; roots_after = told.1.1.1.1.1 }
 
 pub returns-in-Wrong : goal.returns-in-Wrong
 unfolding seen_then waiting_then roots_then column_then
-returns-in-Wrong c = rw c.in let told = -Wrong.is (refl, (refl, (refl, (refl, (refl, refl))))) in
-    record { value = told.0; waiting_after = told.1; kinds_after = told.2; payloads_after = told.3; owners_after = told.4; roots_after = told.5 }
+returns-in-Wrong c =
+    let told = rw c.in-Wrong.is (refl, (refl, (refl, (refl, (refl, refl))))) in
+    record { value = told.0; waiting_after = told.1.0; kinds_after = told.1.1.0; payloads_after = told.1.1.1.0; owners_after = told.1.1.1.1.0; roots_after = told.1.1.1.1.1 }

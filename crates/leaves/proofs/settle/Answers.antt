@@ -4,7 +4,7 @@ use Rattle.leaves.proofs.Laws.{settled_on, settled_last, settled_plan, settled_f
 use Rattle.leaves.proofs.settle.Goals as goal
 
 pub returns-in_default : goal.returns-in_default
-returns-in_default c = settled_on _ _ _ _ _ _ _ c.in_default.in_default-own.keys2
+returns-in_default c = settled_on _ _ _ _ _ _ _ c.in_default.not-Tick
 
 pub returns-then-around-ne0 : goal.returns-then-around-ne0
 returns-then-around-ne0 c =

@@ -42,6 +42,7 @@ loop-i-preserved c =
 
 pub returns : goal.returns
 returns c =
-    let known = c.loop-i.invariant in let told = linking_over _ _ _ _ _ _ c.at_most-count.ensures _ _ _ _ c.loop-i-test.false known.2
+    let known = c.loop-i.invariant in
+    let told = linking_over _ _ _ _ _ _ c.at_most-count.ensures _ _ _ _ c.loop-i-test.false known.2
     known.3 in
     record { value = told.0; sides_after = told.1 }

@@ -17,12 +17,12 @@ slice_bounds-list_script-start c = sub-list-script c
 
 pub returns-in-Refused : goal.returns-in-Refused
 returns-in-Refused c =
-    refused_listed _ _ c.table_end-end.ensures _ c.check-checked.ensures _ _ c.in let told = -Refused.is
+    let told = refused_listed _ _ c.table_end-end.ensures _ c.check-checked.ensures _ _ c.in-Refused.is
     c.put_refusal.ensures in
     record { value = told.0; out_after = told.1 }
 
 pub returns-in-Accepted : goal.returns-in-Accepted
 returns-in-Accepted c =
-    accepted_listed _ _ c.table_end-end.ensures _ c.check-checked.ensures _ c.in let told = -Accepted.is
+    let told = accepted_listed _ _ c.table_end-end.ensures _ c.check-checked.ensures _ c.in-Accepted.is
     c.list_script.ensures in
     record { value = told.0; out_after = told.1 }

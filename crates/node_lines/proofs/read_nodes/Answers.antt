@@ -1,6 +1,5 @@
 use Prim.Native.Nat.{◌-◌}
 use native.Mathlib.Omega.{arith}
-use Rattle.lines.proofs.Laws.{not_found}
 use Rattle.opening.proofs.Turns.{held_line, all_read, none_ends, line_ends}
 use Rattle.node_lines.proofs.Laws.{nodes_none, node_more}
 use Rattle.node_lines.proofs.read_nodes.Goals as goal
@@ -19,7 +18,8 @@ returns-in_default c =
 pub returns-then-number-ne0 : goal.returns-then-number-ne0
 returns-then-number-ne0 c =
     let i = held_line _ _ c.next_line-found.ensures c.in-Found.is
-    c.characters-chars.ensures in let told = line_ends _ _ _ _ _ _ _ c.loop-k.invariant.1 c.loop-k-test.true i
+    c.characters-chars.ensures in
+    let told = line_ends _ _ _ _ _ _ _ c.loop-k.invariant.1 c.loop-k-test.true i
     (c.node_refusal-number.ensures _)
     c.if-number-ne0.true
     (omega arith) in

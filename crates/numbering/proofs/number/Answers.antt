@@ -13,29 +13,20 @@ pub number_pairs-arcs_out-requires : goal.number_pairs-arcs_out-requires
 number_pairs-arcs_out-requires c =
     let numbered = c.walk-nodes.ensures.labels_after in
     let nodes = nodes_most _ _ _ _ _ numbered in
-    let blank = length-replicate {A = ℕ} track_words 0 in let told = (
-      (omega (arith, nodes), omega (arith, c.at_most.ensures), omega (arith, c.at_most.ensures)),
-      ((blank, blank), nodes_above _ _ _ _ _ numbered),
-    ) in
-    record { nodes_le_reference_room = told.0; graph_len = told.1; by_index = told.2 }
+    let blank = length-replicate {A = ℕ} track_words 0 in
+    record { nodes_le_reference_room = (omega (arith, nodes), omega (arith, c.at_most.ensures), omega (arith, c.at_most.ensures)); graph_len = (blank, blank); by_index = nodes_above _ _ _ _ _ numbered }
 
 pub number_pairs-meetings_out-requires : goal.number_pairs-meetings_out-requires
 number_pairs-meetings_out-requires c =
-    let arcs = (c.number_pairs-arcs_out.ensures.graph_after, c.number_pairs-arcs_out.ensures.spare_len, c.number_pairs-arcs_out.ensures.starts_after) in
+    let arcs = (c.number_pairs-arcs_out.ensures.graph_after, (c.number_pairs-arcs_out.ensures.spare_len, c.number_pairs-arcs_out.ensures.starts_after)) in
     let numbered = c.walk-nodes.ensures.labels_after in
     let nodes = nodes_most _ _ _ _ _ numbered in
-    let blank = length-replicate {A = ℕ} track_words 0 in let told = (
-      (omega (arith, nodes), omega (arith, c.at_most-2.ensures), omega (arith, c.at_most-2.ensures)),
-      (
-        (puts_long 0 (replicate track_words 0) _ _ _ blank arcs.0, arcs.1.0),
-        nodes_above _ _ _ _ _ numbered,
-      ),
-    ) in
-    record { nodes_le_reference_room = told.0; graph_len = told.1; by_index = told.2 }
+    let blank = length-replicate {A = ℕ} track_words 0 in
+    record { nodes_le_reference_room = (omega (arith, nodes), omega (arith, c.at_most-2.ensures), omega (arith, c.at_most-2.ensures)); graph_len = (puts_long 0 (replicate track_words 0) _ _ _ blank arcs.0, arcs.1.0); by_index = nodes_above _ _ _ _ _ numbered }
 
 pub returns : goal.returns
 returns c =
     let done = assembled _ _ _ _ _ c.walk-nodes.ensures.labels_after _ _ _ _ _ _ _ _ _ _ _ c.link.ensures.sides_after
     c.at_most.ensures c.number_pairs-arcs_out.ensures.graph_after
-    c.at_most-2.ensures c.number_pairs-meetings_out.ensures.graph_after in let told = (done, (refl, (c.number_pairs-meetings_out.ensures.spare_len.1, (refl, refl)))) in
-    record { graph_after = told.0; sides_after = told.1; pending_after = told.2; numbers_after = told.3; spare_after = told.4 }
+    c.at_most-2.ensures c.number_pairs-meetings_out.ensures.graph_after in
+    record { graph_after = done; sides_after = refl; pending_after = c.number_pairs-meetings_out.ensures.starts_after; numbers_after = refl; spare_after = refl }

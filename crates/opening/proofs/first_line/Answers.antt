@@ -1,7 +1,6 @@
 -- `opening::first_line` meets its contract: line 1 is none, or has another frame, or its numbers are outside or
 -- inside their ranges. Assumes nothing.
 use native.Mathlib.Omega.{arith}
-use Rattle.lines.proofs.Laws.{not_found}
 use Rattle.opening.proofs.Tested.{opening_length, opening_tag, opening_read}
 use Rattle.opening.proofs.Turns.{held_line, opened_none, opened_stops, opened_outside, opened_inside}
 use Rattle.opening.proofs.first_line.Goals as goal

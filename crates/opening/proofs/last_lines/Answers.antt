@@ -1,6 +1,5 @@
 -- `opening::last_lines` meets its contract: the line is none, or another, or the last one, with what stands behind
 -- it. Assumes nothing.
-use Rattle.lines.proofs.Laws.{not_found}
 use Rattle.opening.proofs.Tested.{last_length, last_tag, last_fits}
 use Rattle.opening.proofs.Turns.{held_line, last_none, last_stops, last_goes}
 use Rattle.opening.proofs.last_lines.Goals as goal

@@ -1,7 +1,6 @@
 use Prim.Native.Nat.{◌-◌}
 use mathlib.Core.Path.{refl}
 use native.Mathlib.Omega.{arith}
-use Rattle.lines.proofs.Laws.{not_found}
 use Rattle.opening.proofs.Turns.{held_line, all_read, none_ends, line_ends}
 use Rattle.pair_lines.proofs.Laws.{pairs_none, pair_more}
 use Rattle.pair_lines.proofs.read_pairs.Goals as goal
@@ -20,7 +19,8 @@ returns-in_default c =
 pub returns-then-number-ne0 : goal.returns-then-number-ne0
 returns-then-number-ne0 c =
     let i = held_line _ _ c.next_line-found.ensures c.in-Found.is
-    c.characters-chars.ensures in let told = line_ends _ _ _ _ _ _ _ c.loop-i.invariant.1 c.loop-i-test.true i
+    c.characters-chars.ensures in
+    let told = line_ends _ _ _ _ _ _ _ c.loop-i.invariant.1 c.loop-i-test.true i
     c.pair_refusal-number.ensures
     c.if-number-ne0.true
     refl in

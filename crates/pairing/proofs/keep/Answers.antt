@@ -16,10 +16,12 @@ returns-then-second-eq0 c =
 
 pub returns-then-high-low : goal.returns-then-high-low
 returns-then-high-low c =
-    let one = c.if-first-eq0.false in let told = both_turned _ _ _ _ _ _ one c.if-second-eq0.false c.if-either.true c.if-high-low.true in
+    let one = c.if-first-eq0.false in
+    let told = both_turned _ _ _ _ _ _ one c.if-second-eq0.false c.if-either.true c.if-high-low.true in
     record { value = told.0; to_after = told.1 }
 
 pub returns : goal.returns
 returns c =
-    let straight = ⊎_elim (λ w. inr w.1.left) (λ w. inl w.left) c.if-either.branch in let told = both_straight _ _ _ _ _ _ c.if-first-eq0.false c.if-second-eq0.false straight in
+    let straight = ⊎_elim (λ w. inr w.1.left) (λ w. inl w.left) c.if-either.branch in
+    let told = both_straight _ _ _ _ _ _ c.if-first-eq0.false c.if-second-eq0.false straight in
     record { value = told.0; to_after = told.1 }

@@ -13,7 +13,8 @@ returns-then-kind-ne-PREFIX c =
 
 pub returns-in_default : goal.returns-in_default
 returns-in_default c =
-    let is = sym c.kind_of-kind.ensures ∙ c.if-kind-ne-PREFIX.false in let told = event_astray (columns _ _ _ _) _ _ is _ _ (c.path_to-reached.ensures.value, c.path_to-reached.ensures.path_after) c.in_default.is in
+    let is = sym c.kind_of-kind.ensures ∙ c.if-kind-ne-PREFIX.false in
+    let told = event_astray (columns _ _ _ _) _ _ is _ _ (c.path_to-reached.ensures.value, c.path_to-reached.ensures.path_after) c.in_default.is in
     record { value = told.0; path_after = told.1 }
 
 pub bounds-path-length : goal.bounds-path-length
@@ -29,5 +30,6 @@ overflow_add-result c = omega (arith, element-write-path c)
 pub returns : goal.returns
 returns c =
     let is = sym c.kind_of-kind.ensures ∙ c.if-kind-ne-PREFIX.false in
-    let at = c.in-Ends.is in let told = event_ends (columns _ _ _ _) _ _ is _ _ (c.path_to-reached.ensures.value, c.path_to-reached.ensures.path_after) _ at in
+    let at = c.in-Ends.is in
+    let told = event_ends (columns _ _ _ _) _ _ is _ _ (c.path_to-reached.ensures.value, c.path_to-reached.ensures.path_after) _ at in
     record { value = told.0; path_after = told.1 }

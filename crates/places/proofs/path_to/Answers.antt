@@ -7,6 +7,7 @@ use Rattle.places.proofs.path_to.Goals as goal
 
 pub returns : goal.returns
 returns c =
-    let owner = c.wide.ensures.value ∙ c.owner_of-definition.ensures in let told = own_path (columns _ _ _ _) _ _ _ _ _ _ (c.root_of-root.ensures ∙ ap (look 64 _) owner)
+    let owner = c.wide.ensures.value ∙ c.owner_of-definition.ensures in
+    let told = own_path (columns _ _ _ _) _ _ _ _ _ _ (c.root_of-root.ensures ∙ ap (look 64 _) owner)
     (c.descend.ensures.value, c.descend.ensures.path_after) in
     record { value = told.0; path_after = told.1 }

@@ -4,19 +4,20 @@ use Rattle.places.proofs.Literals.{left_placed, own_placed, event_placed}
 use Rattle.places.proofs.place.Goals as goal
 
 pub returns-in-Left : goal.returns-in-Left
-returns-in-Left c = left_placed (columns _ _ _ _) _ _ _ c.in let told = -Left.is in
+returns-in-Left c =
+    let told = left_placed (columns _ _ _ _) _ _ _ c.in-Left.is in
     record { value = told.0; path_after = told.1 }
 
 pub returns-in-Own : goal.returns-in-Own
 returns-in-Own c =
-    own_placed (columns _ _ _ _) _ _ _ _ _ _ _ c.owner_of-definition.ensures c.answer_of.ensures
-    c.in let told = -Own.is
+    let told = own_placed (columns _ _ _ _) _ _ _ _ _ _ _ c.owner_of-definition.ensures c.answer_of.ensures
+    c.in-Own.is
     (c.path_to.ensures.value, c.path_to.ensures.path_after) in
     record { value = told.0; path_after = told.1 }
 
 pub returns-in-Event : goal.returns-in-Event
 returns-in-Event c =
-    event_placed (columns _ _ _ _) _ _ _ _ _ _ _ c.owner_of-definition-in-Event.ensures c.answer_of-in-Event.ensures
-    c.in let told = -Event.is
+    let told = event_placed (columns _ _ _ _) _ _ _ _ _ _ _ c.owner_of-definition-in-Event.ensures c.answer_of-in-Event.ensures
+    c.in-Event.is
     (c.event_to.ensures.value, c.event_to.ensures.path_after) in
     record { value = told.0; path_after = told.1 }

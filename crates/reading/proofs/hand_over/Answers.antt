@@ -16,4 +16,4 @@ returns c =
       (w.3 ∙ sym (handed_old _ _ w.1.given.1), (refl, refl)),
     ))
     c.match-judged.branch in
-    record { labels_after = told.0; graph_after = told.1; marks_after = told.2; track_after = told.3 }
+    record { labels_after = told.0; graph_after = told.1.0; marks_after = told.1.1.0; track_after = told.1.1.1 }

@@ -6,21 +6,23 @@ use Rattle.reading.proofs.judge.Goals as goal
 
 pub returns-in_default : goal.returns-in_default
 returns-in_default c =
-    let judged = lines_refused _ _ _ _ _ _ _ c.read_lines-read.ensures c.in_default.is in let told = (judged, (refl, (refl, (refl, refl)))) in
-    record { held = told.0; sides_after = told.1; pending_after = told.2; numbers_after = told.3; walked_after = told.4 }
+    let judged = lines_refused _ _ _ _ _ _ _ c.read_lines-read.ensures c.in_default.is in
+    record { held = judged; sides_after = refl; pending_after = refl; numbers_after = refl; walked_after = refl }
 
 pub returns-then-not-fits : goal.returns-then-not-fits
 returns-then-not-fits c =
     let lines = c.read_lines-read.ensures in
-    let shape = (c.has_shape-fits.ensures.value, c.has_shape-fits.ensures.sides_after, c.has_shape-fits.ensures.pending_after, c.has_shape-fits.ensures.numbers_after, c.has_shape-fits.ensures.walked_after) in
+    let shape = (c.has_shape-fits.ensures.value, (c.has_shape-fits.ensures.sides_after, (c.has_shape-fits.ensures.pending_after, (c.has_shape-fits.ensures.numbers_after, c.has_shape-fits.ensures.walked_after)))) in
     let judged = rules_decide _ _ _ _ _ _ _ lines c.in-Accepted.is shape.0
-    c.if-not-fits.true in let told = (judged, shape.1) in
-    record { held = told.0; sides_after = told.1; pending_after = told.2; numbers_after = told.3; walked_after = told.4 }
+    c.if-not-fits.true in
+    let told = shape.1 in
+    record { held = judged; sides_after = told.0; pending_after = told.1.0; numbers_after = told.1.1.0; walked_after = told.1.1.1 }
 
 pub returns : goal.returns
 returns c =
     let lines = c.read_lines-read.ensures in
-    let shape = (c.has_shape-fits.ensures.value, c.has_shape-fits.ensures.sides_after, c.has_shape-fits.ensures.pending_after, c.has_shape-fits.ensures.numbers_after, c.has_shape-fits.ensures.walked_after) in
+    let shape = (c.has_shape-fits.ensures.value, (c.has_shape-fits.ensures.sides_after, (c.has_shape-fits.ensures.pending_after, (c.has_shape-fits.ensures.numbers_after, c.has_shape-fits.ensures.walked_after)))) in
     let judged = rules_decide _ _ _ _ _ _ _ lines c.in-Accepted.is shape.0
-    c.if-not-fits.false in let told = (judged, shape.1) in
-    record { held = told.0; sides_after = told.1; pending_after = told.2; numbers_after = told.3; walked_after = told.4 }
+    c.if-not-fits.false in
+    let told = shape.1 in
+    record { held = judged; sides_after = told.0; pending_after = told.1.0; numbers_after = told.1.1.0; walked_after = told.1.1.1 }

@@ -8,5 +8,5 @@ returns-then-unready-ne-DONE c = line_untouched _ _ _ c.unready-unready.ensures 
 
 pub returns : goal.returns
 returns c =
-    line_played _ _ _ c.unready-unready.ensures _ _ _ _ _ _ _ _ _ c.if-unready-ne-DONE.false c.play-played.ensures.digits_after.0
+    line_played _ _ _ c.unready-unready.ensures _ _ _ _ _ _ _ _ _ c.if-unready-ne-DONE.false c.play-played.ensures.digits_after
     _ _ _ _ c.play-played.ensures.counters_after _ _ c.of_played.ensures c.cursor_behind.ensures

@@ -3,4 +3,4 @@ use Rattle.run_parts.proofs.Laws.{started}
 use Rattle.run_parts.proofs.start_parts.Goals as goal
 
 pub returns : goal.returns
-returns c = started _ _ _ c.start.ensures.nodes_after c.start.ensures.track_after.0 c.start.ensures.track_after.1.0
+returns c = started _ _ _ c.start.ensures.nodes_after c.start.ensures.track_after c.start.ensures.counters_after

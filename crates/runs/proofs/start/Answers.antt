@@ -5,6 +5,4 @@ use Rattle.runs.proofs.Promises.{begins}
 use Rattle.runs.proofs.start.Goals as goal
 
 pub returns : goal.returns
-returns c =
-    let told = (refl, (refl, (refl, begins _ _ _ refl refl refl))) in
-    record { nodes_after = told.0; track_after = told.1; counters_after = told.2; begins = told.3 }
+returns c = record { nodes_after = refl; track_after = refl; counters_after = refl; begins = begins _ _ _ refl refl refl }

@@ -13,18 +13,21 @@ returns-then-ended c =
 
 pub returns-then-offered : goal.returns-then-offered
 returns-then-offered c =
-    let going = sym c.ended.ensures ∙ c.if-ended.false in let told = promised _ _ _ _ _ (status_plain _ _ _ _ c.offers-offered.result c.offers-offered.ensures.result_value going c.if-offered.true) in
+    let going = sym c.ended.ensures ∙ c.if-ended.false in
+    let told = promised _ _ _ _ _ (status_plain _ _ _ _ c.offers-offered.result c.offers-offered.ensures.result_value going c.if-offered.true) in
     record { value = told.0; tells_status = told.1 }
 
 pub returns-then-offered-2 : goal.returns-then-offered-2
 returns-then-offered-2 c =
-    let going = sym c.ended.ensures ∙ c.if-ended.false in let told = promised _ _ _ _ _
+    let going = sym c.ended.ensures ∙ c.if-ended.false in
+    let told = promised _ _ _ _ _
     (status_tick _ _ _ _ c.offers-offered.result c.offers-offered.ensures.result_value going c.if-offered.false c.if-offered-2.true) in
     record { value = told.0; tells_status = told.1 }
 
 pub returns-then-empty : goal.returns-then-empty
 returns-then-empty c =
-    let going = sym c.ended.ensures ∙ c.if-ended.false in let told = promised _ _ _ _ _
+    let going = sym c.ended.ensures ∙ c.if-ended.false in
+    let told = promised _ _ _ _ _
     (status_stuck _ _ _ _ c.offers-offered.result c.offers-offered.ensures.result_value going c.if-offered.false c.if-offered-2.false
     (c.empty.ensures.no_event c.if-empty.true)) in
     record { value = told.0; tells_status = told.1 }
@@ -32,7 +35,8 @@ returns-then-empty c =
 pub returns : goal.returns
 returns c =
     let going = sym c.ended.ensures ∙ c.if-ended.false in
-    let found = c.empty.ensures.some_event c.if-empty.false in let told = promised _ _ _ _ _
+    let found = c.empty.ensures.some_event c.if-empty.false in
+    let told = promised _ _ _ _ _
     (status_event _ _ _ _ c.offers-offered.result c.offers-offered.ensures.result_value going c.if-offered.false c.if-offered-2.false
     (search (rules, c.offers-offered.type-inv)) found.0 found.1) in
     record { value = told.0; tells_status = told.1 }

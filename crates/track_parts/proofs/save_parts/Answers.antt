@@ -11,9 +11,10 @@ returns-then-unready-ne-DONE c =
 
 pub returns : goal.returns
 returns c =
-    let all = (c.save-saved.ensures.text_after, c.save-saved.ensures.labels_after, c.save-saved.ensures.graph_after, c.save-saved.ensures.marks_after, c.save-saved.ensures.sides_after, c.save-saved.ensures.pending_after, c.save-saved.ensures.numbers_after, c.save-saved.ensures.spare_after, c.save-saved.ensures.saves) in
+    let all = (c.save-saved.ensures.text_after, (c.save-saved.ensures.labels_after, (c.save-saved.ensures.graph_after, (c.save-saved.ensures.marks_after, (c.save-saved.ensures.sides_after, (c.save-saved.ensures.pending_after, (c.save-saved.ensures.numbers_after, (c.save-saved.ensures.spare_after, c.save-saved.ensures.saves)))))))) in
     let told = c.unready-unready.ensures in
-    let ready = c.if-unready-ne-DONE.false in record {
+    let ready = c.if-unready-ne-DONE.false in
+    record {
       text_after = save_written _ _ _ told _ _ _ _ _ _ _ _ _ ready _ _ all.0 _ _ c.of_saved.ensures c.length_of.ensures;
       spare_after = work_cleared _ _ _ told _ ready _ (all_saving_cleared _ _ _ _ _ _ _
           all.1.0 all.1.1.0 all.1.1.1.0 all.1.1.1.1.0 all.1.1.1.1.1.0

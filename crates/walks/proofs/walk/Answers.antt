@@ -70,7 +70,7 @@ pub walk-preserved : goal.walk-preserved
 walk-preserved c =
     turn_numbers _ _ _ _ _ _ _ c.loop-top.invariant _ c.if-top-eq0.false
     c.wide-next.ensures c.if-numbers-next-eq0.true _ _ _ _ _ _ _
-    (c.give_number-count.ensures.value, c.give_number-count.ensures.numbers_after, c.give_number-count.ensures.labels_after) (c.push-top.ensures.value, c.push-top.ensures.pending_after) (c.push-top-in-walk.ensures.value, c.push-top-in-walk.ensures.pending_after)
+    (c.give_number-count.ensures.value, (c.give_number-count.ensures.numbers_after, c.give_number-count.ensures.labels_after)) (c.push-top.ensures.value, c.push-top.ensures.pending_after) (c.push-top-in-walk.ensures.value, c.push-top-in-walk.ensures.pending_after)
 
 pub returns : goal.returns
 returns c = record { labels_after = walk_done _ _ _ _ _ _ _ c.loop-top.invariant c.if-top-eq0.true; pending_after = refl }

@@ -7,10 +7,10 @@ pub returns-then-kind-ne-PARALLEL_WORD : goal.returns-then-kind-ne-PARALLEL_WORD
 returns-then-kind-ne-PARALLEL_WORD c = choice_parts _ c.if-kind-ne-PARALLEL_WORD.true _ _ _
 
 pub returns-in_default : goal.returns-in_default
-returns-in_default c = parts_silent _ _ _ _ c.in_default.in_default-own.keys2
+returns-in_default c = parts_silent _ _ _ _ c.in_default.not-Visible
 
 pub returns-in_default-right : goal.returns-in_default-right
-returns-in_default-right c = parts_across _ _ _ _ _ c.in-Visible.is c.in_default-right.in_default-right-own.keys2
+returns-in_default-right c = parts_across _ _ _ _ _ c.in-Visible.is c.in_default-right.not-Visible
 
 pub returns-then-a-b : goal.returns-then-a-b
 returns-then-a-b c =

@@ -1,7 +1,6 @@
 -- `weights::both` meets its contract, by whether each side has a weight and whether their events
 -- agree. Assumes nothing.
 use mathlib.Core.Path.{sym, ◌∙◌}
-use borrow.Author.Tests.{not-true, not-false}
 use Rattle.weights.proofs.RuleLaws.{both_nothing, both_half, both_apart, both_meet}
 use Rattle.weights.proofs.both.Goals as goal
 

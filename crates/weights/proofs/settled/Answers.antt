@@ -1,6 +1,5 @@
 -- `weights::settled` meets its contract, by whether there is a weight, whether a sequence is around,
 -- and the event. Assumes nothing.
-use borrow.Author.Tests.{not-true, not-false}
 use Rattle.weights.proofs.RuleLaws.{settled_nothing, settled_outside, settled_on, settled_tick}
 use Rattle.weights.proofs.settled.Goals as goal
 
@@ -13,7 +12,7 @@ returns-then-not-within c = settled_outside _ _ _ c.in-Derived.is c.if-not-withi
 pub returns-in_default-event : goal.returns-in_default-event
 returns-in_default-event c =
     settled_on _ _ _ c.in-Derived.is c.if-not-within.false
-    c.in_default-event.in_default-event-own.keys2
+    c.in_default-event.not-Tick
 
 pub returns : goal.returns
 returns c =

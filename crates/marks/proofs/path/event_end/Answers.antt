@@ -1,6 +1,5 @@
 -- `marks::path::event_end` meets its contract, by whether the path ends. Assumes nothing.
 use native.Mathlib.Omega.{arith}
-use borrow.Author.Tests.{not-true, not-false}
 use Rattle.marks.proofs.Laws.{event_small}
 use Rattle.marks.proofs.path.event_end.Goals as goal
 

@@ -19,7 +19,8 @@ returns-then-most-depth c =
 
 pub returns-then-count-eq0 : goal.returns-then-count-eq0
 returns-then-count-eq0 c =
-    let count = c.subterms-count.ensures ∙ ap subterms c.kind_of.ensures in let told = way_leaf _ _ _ _ _ _ _ _ _ _ c.loop-here.invariant c.if-here-to.false (sym count ∙ c.if-count-eq0.true) in
+    let count = c.subterms-count.ensures ∙ ap subterms c.kind_of.ensures in
+    let told = way_leaf _ _ _ _ _ _ _ _ _ _ c.loop-here.invariant c.if-here-to.false (sym count ∙ c.if-count-eq0.true) in
     record { value = told.0; path_after = told.1 }
 
 pub step_to-step-requires : goal.step_to-step-requires
