@@ -15,7 +15,7 @@ use Rattle.rules.specs.declared.Event.{Event}
 use Rattle.rules.specs.declared.Event.TheVariants.{Tau, Tick, Visible}
 use Rattle.control.specs.words.Sums.{capped}
 use Rattle.looking.specs.code.Looking.{taken}
-use Rattle.weights.proofs.RuleLaws.{Tagged}
+use Rattle.weights.proofs.RuleLaws.{NoTick}
 use Rattle.drawing.specs.code.Drawing.{one_node, one_arc, one_met, drawn, labelled, standing, with_arc}
 use Rattle.drawing.specs.code.Drawing.{with_met, joined}
 use Rattle.leaves.specs.code.Leaves.{Done, with_words, come, on, started, ends}
@@ -89,13 +89,13 @@ module _ (n em om : ℕ) (k l j l' j' i : Tally) (w v u g h h' z : List ℕ)
 
 -- what a step comes to inside the sequences around term t
 module _ (p : List ℕ) (d : Taken) (t f b : ℕ) (w g : List ℕ) where
-  unless_tick : (e : Event) → Tagged e 0 2 → with_words d w g ≡ by_event e p d t f b w g
+  unless_tick : (e : Event) → NoTick e → with_words d w g ≡ by_event e p d t f b w g
   unfolding by_event
   unless_tick Tau h = refl
   unless_tick (Visible e) h = refl
-  unless_tick Tick h = ⊎_elim (λ z. absurd (omega arith)) (λ z. absurd (omega arith)) h
+  unless_tick Tick h = absurd (h refl)
 
-  pub settled_on : Tagged d.event 0 2 → Comes d w g (settled p d t f b w g)
+  pub settled_on : NoTick d.event → Comes d w g (settled p d t f b w g)
   unfolding settled
   settled_on = unless_tick d.event
 

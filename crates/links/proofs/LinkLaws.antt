@@ -25,14 +25,14 @@ use Rattle.links.specs.code.Linked.{linked, all_fit}
 
 -- whether a mark has sides
 module _ (ks : List ℕ) (m : ℕ) where
-  pub splits_none : (b : Bool) → b ≡ is_own m → not b ≡ true → false ≡ splits ks m
+  pub splits_none : (b : Bool) → b ≡ is_own m → b ≡ false → false ≡ splits ks m
   unfolding splits
-  splits_none b e h = rw (← e, not-true b h)
+  splits_none b e h = rw (← e, h)
 
-  pub splits_kind : (b : Bool) → b ≡ is_own m → not b ≡ false → (t k : ℕ) → t ≡ term_of m → k ≡ look term_room ks t
+  pub splits_kind : (b : Bool) → b ≡ is_own m → b ≡ true → (t k : ℕ) → t ≡ term_of m → k ≡ look term_room ks t
       → (eqb k external || eqb k parallel) ≡ splits ks m
   unfolding splits
-  splits_kind b e h t k f g = rw (← e, not-false b h, g, f)
+  splits_kind b e h t k f g = rw (← e, h, g, f)
 
 -- the side that a term stands in
 module _ (xs : List ℕ) (t u : ℕ) where
@@ -51,18 +51,18 @@ module _ (xs : List ℕ) (t u : ℕ) where
 
 -- the side that an arc leads to
 module _ (ks xs : List ℕ) (m n : ℕ) (b : Bool) (told : b ≡ splits ks m) where
-  pub slot_whole : not b ≡ true → 2 ≡ slot ks xs m n
+  pub slot_whole : b ≡ false → 2 ≡ slot ks xs m n
   unfolding slot
-  slot_whole h = rw (← told) (simp (not-true b h))
+  slot_whole h = rw (← told) (simp h)
 
-  pub slot_low : not b ≡ false → n < 2 → 0 ≡ slot ks xs m n
+  pub slot_low : b ≡ true → n < 2 → 0 ≡ slot ks xs m n
   unfolding slot
-  slot_low h l = rw (← told) (simp (not-false b h, lt-ltb n 2 l))
+  slot_low h l = rw (← told) (simp (h, lt-ltb n 2 l))
 
-  pub slot_side : not b ≡ false → 2 ≤ n → (t u s : ℕ) → t ≡ term_of m → u ≡ term_of n → s ≡ side_of xs t u
+  pub slot_side : b ≡ true → 2 ≤ n → (t u s : ℕ) → t ≡ term_of m → u ≡ term_of n → s ≡ side_of xs t u
       → s ≡ slot ks xs m n
   unfolding slot
-  slot_side h l t u s e f k = k ∙ rw (← told, e, f) (simp (not-false b h, le-ltb n 2 l))
+  slot_side h l t u s e f k = k ∙ rw (← told, e, f) (simp (h, le-ltb n 2 l))
 
 -- there are two sides
 pub slot_most : (ks xs : List ℕ) (m n s : ℕ) → s ≡ slot ks xs m n → s ≤ 2
@@ -160,8 +160,8 @@ module _ (ms ks xs g : List ℕ) (c : ℕ) where
 
 -- whether all arcs fit, one more being linked
 module _ (fits fits' r whole rest : Bool) (one_more : whole ≡ (r && rest)) where
-  pub fits_lost : not r ≡ true → fits' ≡ false → (fits && whole) ≡ (fits' && rest)
-  fits_lost h e = rw (one_more, not-true r h, e) (and-false fits)
+  pub fits_lost : r ≡ false → fits' ≡ false → (fits && whole) ≡ (fits' && rest)
+  fits_lost h e = rw (one_more, h, e) (and-false fits)
 
-  pub fits_kept : not r ≡ false → fits' ≡ fits → (fits && whole) ≡ (fits' && rest)
-  fits_kept h e = rw (one_more, not-false r h, e)
+  pub fits_kept : r ≡ true → fits' ≡ fits → (fits && whole) ≡ (fits' && rest)
+  fits_kept h e = rw (one_more, h, e)

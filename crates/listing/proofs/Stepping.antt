@@ -40,15 +40,15 @@ record Alike (y z : plays.LinePlayed) : Type 0 where
   same_counters : y.counters ≡ z.counters
   goes : (n : ℕ) (rest : Stopped) → by_played n y rest y.played ≡ by_played n z rest z.played
 
--- what a line that is no step was, by its tag
+-- what a line that is no step was
 abbrev pub Other : Played → Type 0
-Other r = (tag_of (declared enum) r ≡ 1) ⊎ (tag_of (declared enum) r ≡ 2)
+Other r = (e : Event) (next : ℕ) → r ≡ Stepped e next → ⊥
 
 -- such a line stops
 by_other : (n : ℕ) (z : plays.LinePlayed) (rest : Stopped) (r : Played) → Other r
     → by_played n z rest r ≡ stops (number_of r) n z
 unfolding by_played number_of
-by_other n z rest (Stepped e next) h = ⊎_elim (λ t. absurd (omega arith)) (λ t. absurd (omega arith)) h
+by_other n z rest (Stepped e next) h = absurd (h e next refl)
 by_other n z rest (Refused r) h = refl
 by_other n z rest End h = refl
 

@@ -60,8 +60,8 @@ module _ (a b left : ℕ) where
   unfolding fits
   fits_both h = ltb-true (a + b) left h
 
-  pub fits_found : (c : Bool) → c ≡ fits a b left → not c ≡ false → a + b < left
-  fits_found c is h = fits_both (sym is ∙ not-false c h)
+  pub fits_found : (c : Bool) → c ≡ fits a b left → c ≡ true → a + b < left
+  fits_found c is h = fits_both (sym is ∙ h)
 
 -- subterms in order
 module _ (i j end : ℕ) where
@@ -134,15 +134,15 @@ module _ (k e x : ℕ) (c : Bool) (l r : Offer) where
   unfolding by_kind
   kind_high h = let above : 4 ≤ k = omega arith in simp (le-ltb k 4 above, lt-ltb 6 k h)
 
-  pub kind_apart : 4 ≤ k → k ≤ 6 → not c ≡ true → unseen false false ≡ by_kind k e x c l r
+  pub kind_apart : 4 ≤ k → k ≤ 6 → c ≡ false → unseen false false ≡ by_kind k e x c l r
   unfolding by_kind
   kind_apart h g m = simp (le-ltb k 4 h, le-ltb 6 k g, m)
 
-  pub kind_sequence : k ≡ 5 → not c ≡ false → settled true l ≡ by_kind k e x c l r
+  pub kind_sequence : k ≡ 5 → c ≡ true → settled true l ≡ by_kind k e x c l r
   unfolding by_kind
   kind_sequence h m = rw (h, m)
 
-  pub kind_split : 4 ≤ k → k ≤ 6 → (k ≡ 5 → ⊥) → not c ≡ false → combined k x false l r ≡ by_kind k e x c l r
+  pub kind_split : 4 ≤ k → k ≤ 6 → (k ≡ 5 → ⊥) → c ≡ true → combined k x false l r ≡ by_kind k e x c l r
   unfolding by_kind
   kind_split h g n m = simp (le-ltb k 4 h, le-ltb 6 k g, ne_eqb k 5 n, m)
 
@@ -167,12 +167,12 @@ module _ (p x : List ℕ) (t end : ℕ) where
 
     module _ (i j : ℕ) (c : Bool) (first_is : i ≡ first_of t) (second_is : j ≡ second p t)
         (ordered : c ≡ in_order i j end) where
-      pub term_apart : 4 ≤ k → k ≤ 6 → not c ≡ true → o ≡ unseen false false → o ≡ of_term f p x t end
+      pub term_apart : 4 ≤ k → k ≤ 6 → c ≡ false → o ≡ unseen false false → o ≡ of_term f p x t end
       term_apart h u m r =
           rw (term_more f g more, ← is, ← first_is, ← second_is, ← ordered)
           (r ∙ kind_apart k _ _ c _ _ h u m)
 
-      module _ (l : Offer) (left : l ≡ of_term g p x i j) (together : not c ≡ false) where
+      module _ (l : Offer) (left : l ≡ of_term g p x i j) (together : c ≡ true) where
         pub term_sequence : k ≡ 5 → o ≡ settled true l → o ≡ of_term f p x t end
         term_sequence h r =
             rw (term_more f g more, ← is, ← first_is, ← second_is, ← ordered, ← left)
@@ -194,11 +194,11 @@ module _ (s : ℕ) (c nested : Bool) (o q : Offer) where
   unfolding by_state
   state_resting h = rw h
 
-  pub state_crowded : s ≤ 1 → (s ≡ 0 → ⊥) → not c ≡ true → unseen false false ≡ by_state s c nested o q
+  pub state_crowded : s ≤ 1 → (s ≡ 0 → ⊥) → c ≡ false → unseen false false ≡ by_state s c nested o q
   unfolding by_state
   state_crowded h n m = simp (le-ltb 1 s h, ne_eqb s 0 n, m)
 
-  pub state_entered : s ≤ 1 → (s ≡ 0 → ⊥) → not c ≡ false → settled nested q ≡ by_state s c nested o q
+  pub state_entered : s ≤ 1 → (s ≡ 0 → ⊥) → c ≡ true → settled nested q ≡ by_state s c nested o q
   unfolding by_state
   state_entered h n m = simp (le-ltb 1 s h, ne_eqb s 0 n, m)
 
@@ -229,7 +229,7 @@ module _ (p x w : List ℕ) (left n t b : ℕ) where
       -- with both sides' cells, which fit or do not
       module _ (e m : ℕ) (c : Bool) (first_has : e ≡ first_cells w n) (second_has : m ≡ second_cells w n)
           (fit : c ≡ fits e m left) where
-        pub at_crowded : s ≤ 1 → (s ≡ 0 → ⊥) → not c ≡ true → o ≡ unseen false false → o ≡ at f p x w left n t b
+        pub at_crowded : s ≤ 1 → (s ≡ 0 → ⊥) → c ≡ false → o ≡ unseen false false → o ≡ at f p x w left n t b
         at_crowded h z u r =
             rw (at_more (term w n) here refl, ← state_is, ← first_has, ← second_has, ← fit)
             (r ∙ state_crowded s c _ _ _ h z u)
@@ -248,7 +248,7 @@ module _ (p x w : List ℕ) (left n t b : ℕ) where
             (first_term : u ≡ first_of d) (second_term : v ≡ second p d) (kind_is : k ≡ kind p d)
             (set_is : y ≡ look term_room x d) (ended_are : both ≡ ended w i && ended w j)
             (first_told : l ≡ at g p x w e i u c) (second_told : r ≡ at g p x w m j v c) where
-          pub at_split : s ≤ 1 → (s ≡ 0 → ⊥) → not room ≡ false → q ≡ combined k y both l r
+          pub at_split : s ≤ 1 → (s ≡ 0 → ⊥) → room ≡ true → q ≡ combined k y both l r
               → o ≡ at f p x w left n t b
           at_split h z roomy sides =
               rw (

@@ -25,9 +25,9 @@ use Rattle.playing.specs.declared.Played.TheVariants as Comes
 use Rattle.runs.proofs.Laws.{Steps}
 use Rattle.playing.proofs.Account.{plays}
 
--- a line of a script that asks for no step, by its tag
+-- a line of a script that asks for no step
 abbrev pub Other : ScriptStep → Type 0
-Other s = (tag_of (declared enum) s ≡ 1) ⊎ (tag_of (declared enum) s ≡ 2)
+Other s = (n next : ℕ) → s ≡ Lines.Address n next → ⊥
 
 -- the line of a script that stands from `at` on, with digits es in the lent array then
 module _ (p x w g c : List ℕ) (at : ℕ) (ls : List Raw) (ds es : List ℕ) (line : ScriptStep)
@@ -50,7 +50,7 @@ module _ (p x w g c : List ℕ) (at : ℕ) (ls : List Raw) (ds es : List ℕ) (l
 
   without : (s : ScriptStep) → Other s → by_line p x w g c s es ≡ unplayed p x w g c (without_step s)
   unfolding without_step by_line
-  without (Lines.Address n next) h = ⊎_elim (λ z. absurd (omega arith)) (λ z. absurd (omega arith)) h
+  without (Lines.Address n next) h = absurd (h n next refl)
   without (Lines.Refused n) h = refl
   without Lines.End h = refl
 

@@ -31,11 +31,11 @@ and_where false h = refl
 
 -- an answer that was negated
 module _ {answer rule : Bool} (told : answer ≡ rule) where
-  pub told_broken : not answer ≡ true → rule ≡ false
-  told_broken h = sym told ∙ not-true answer h
+  pub told_broken : answer ≡ false → rule ≡ false
+  told_broken h = sym told ∙ h
 
-  pub told_met : not answer ≡ false → rule ≡ true
-  told_met h = sym told ∙ not-false answer h
+  pub told_met : answer ≡ true → rule ≡ true
+  told_met h = sym told ∙ h
 
 -- a word that was compared
 module _ {m x : ℕ} (told : m ≡ x) (v : ℕ) where
@@ -158,13 +158,13 @@ module _ (base : ℕ) (w : List ℕ) (c : ℕ) where
           let turn = rw (high, low, next) at (compared (i - 1) (omega arith)) in
           so_far.1 ∙ turn ∙ rw (f_is, p_is, q_is, s_is)
 
-      pub pair_falls : not (ltb p f || (eqb p f && ltb q s)) ≡ true → false ≡ ascends (pairs base w 0 c)
-      pair_falls l = sym (both_words ∙ rw (not-true (ltb p f || (eqb p f && ltb q s)) l))
+      pub pair_falls : (ltb p f || (eqb p f && ltb q s)) ≡ false → false ≡ ascends (pairs base w 0 c)
+      pair_falls l = sym (both_words ∙ rw l)
 
-      pub pair_rises : not (ltb p f || (eqb p f && ltb q s)) ≡ false → Ascended (i + 1)
+      pub pair_rises : (ltb p f || (eqb p f && ltb q s)) ≡ true → Ascended (i + 1)
       pair_rises l =
           let same : i + 1 - 1 ≡ i = omega arith in
-          (omega arith, rw same (both_words ∙ rw (not-false (ltb p f || (eqb p f && ltb q s)) l)))
+          (omega arith, rw same (both_words ∙ rw l))
 
 -- the test of a meeting: it is of one event, where its first number is the lower
 abbrev pub meets_well : List ℕ → List ℕ → Pair → Bool

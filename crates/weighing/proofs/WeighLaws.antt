@@ -83,15 +83,15 @@ module _ {p x : List ℕ} {count : ℕ} {ds : List ℕ} {left t : ℕ} {nested :
   no_sequence : eqb (kind p t) Kind.sequence ≡ false
   no_sequence = ne_eqb (kind p t) Kind.sequence (λ z. l.other (l.kind_is ∙ z))
 
-  pub term_leaf : not split ≡ true → {e : ℕ} {y : Weighed} → e ≡ operand p t
+  pub term_leaf : split ≡ false → {e : ℕ} {y : Weighed} → e ≡ operand p t
       → y ≡ by_leaf k e d within at size → y ≡ of_term p x count ds left t nested at size
   unfolding of_term
   term_leaf h e_is y_is =
-      let whole : is_split (kind p t) ≡ false = rw (← l.kind_is, ← l.split_is) (not-true split h) in
+      let whole : is_split (kind p t) ≡ false = rw (← l.kind_is, ← l.split_is) h in
       rw (y_is, l.kind_is, e_is, l.digit_is, l.within_is, l.around_is, l.more)
       (simp (no_sequence, whole))
 
-  module _ (splits : not split ≡ false) where
+  module _ (splits : split ≡ true) where
     -- a split is weighed by its digit
     by_sides : of_term p x count ds left t nested at size ≡ by_digit p x count ds d t
         (entering
@@ -100,21 +100,21 @@ module _ {p x : List ℕ} {count : ℕ} {ds : List ℕ} {left t : ℕ} {nested :
         (capped (size + 2)) 1 1 within
     unfolding of_term
     by_sides =
-        let there : is_split (kind p t) ≡ true = rw (← l.kind_is, ← l.split_is) (not-false split splits) in
+        let there : is_split (kind p t) ≡ true = rw (← l.kind_is, ← l.split_is) splits in
         rw (l.digit_is, l.within_is, l.around_is, l.more) (simp (no_sequence, there))
 
     module _ {s : Bool} (s_is : s ≡ is_side d) where
-      pub term_astray : not s ≡ true → Nothing ≡ of_term p x count ds left t nested at size
-      term_astray h = rw by_sides (astray p x count ds d t _ _ _ _ _ _ (sym s_is ∙ not-true s h))
+      pub term_astray : s ≡ false → Nothing ≡ of_term p x count ds left t nested at size
+      term_astray h = rw by_sides (astray p x count ds d t _ _ _ _ _ _ (sym s_is ∙ h))
 
-      module _ (side : not s ≡ false) {j set larger : ℕ} {found : Weighed}
+      module _ (side : s ≡ true) {j set larger : ℕ} {found : Weighed}
           (g : Sided p x count ds t at size less d j set larger found) where
         pub term_one : (d ≡ 3 → ⊥) → {y : Weighed} → y ≡ one k set found larger 1 1 within
             → y ≡ of_term p x count ds left t nested at size
         term_one h y_is =
             rw (by_sides, y_is, g.found_is, g.raw_is, l.kind_is, g.set_is, g.gone_is, g.first_is)
             (rw (g.second_is, g.next_is, g.larger_is)
-            (alone p x count ds d t _ _ _ _ _ _ (sym s_is ∙ not-false s side) h))
+            (alone p x count ds d t _ _ _ _ _ _ (sym s_is ∙ side) h))
 
         pub term_both : d ≡ 3 → {from : ℕ} {over across y : Weighed} → from ≡ end_of found count
             → over ≡ of_term p x count ds less j false from 1 → across ≡ entering over 0
@@ -122,7 +122,7 @@ module _ {p x : List ℕ} {count : ℕ} {ds : List ℕ} {left t : ℕ} {nested :
         term_both h from_is over_is across_is y_is =
             rw (by_sides, y_is, across_is, over_is, from_is, g.found_is, g.raw_is, l.kind_is, g.set_is)
             (rw (g.gone_is, g.first_is, g.second_is, g.next_is, g.larger_is)
-            (jointly p x count ds d t _ _ _ _ _ _ (sym s_is ∙ not-false s side) h))
+            (jointly p x count ds d t _ _ _ _ _ _ (sym s_is ∙ side) h))
 
 -- the words of a reference that there is: its state, term and frame
 pub record Standing (p x : List ℕ) (count : ℕ) (ds w g : List ℕ) (arcs left n t bound at size less s u f : ℕ)
@@ -226,17 +226,17 @@ module _ {p x : List ℕ} {count : ℕ} {ds w g : List ℕ} {arcs left n t bound
         (rw l.standing.more (simp (present, open_there, on)))
 
     module _ {b : Bool} (b_is : b ≡ is_side d) where
-      pub at_astray : not b ≡ true → Nothing ≡ at_reference p x count ds w g arcs left n t bound at size
-      at_astray h = rw at_sides (astray p x count ds d u _ _ _ _ _ _ (sym b_is ∙ not-true b h))
+      pub at_astray : b ≡ false → Nothing ≡ at_reference p x count ds w g arcs left n t bound at size
+      at_astray h = rw at_sides (astray p x count ds d u _ _ _ _ _ _ (sym b_is ∙ h))
 
-      module _ (named : not b ≡ false) {j set e own other : ℕ} {found : Weighed}
+      module _ (named : b ≡ true) {j set e own other : ℕ} {found : Weighed}
           (c : Crossed p x count ds w g arcs n at less u f k d j set e own other found) where
         pub at_one : (d ≡ 3 → ⊥) → {y : Weighed} → y ≡ one k set found size own other within
             → y ≡ at_reference p x count ds w g arcs left n t bound at size
         at_one h y_is =
             rw (at_sides, y_is, c.found_is, c.gone_is, c.below_is, c.own_is, c.other_is, c.side_is)
             (rw (c.first_is, c.second_is, c.inside_is, c.next_is, c.set_is, l.kind_is)
-            (alone p x count ds d u _ _ _ _ _ _ (sym b_is ∙ not-false b named) h))
+            (alone p x count ds d u _ _ _ _ _ _ (sym b_is ∙ named) h))
 
         pub at_both : d ≡ 3 → {from q : ℕ} {across y : Weighed} → from ≡ end_of found count → q ≡ node 5 w n
             → across ≡ at_reference p x count ds w g arcs less q j e from other
@@ -245,4 +245,4 @@ module _ {p x : List ℕ} {count : ℕ} {ds w g : List ℕ} {arcs left n t bound
         at_both h from_is q_is across_is y_is =
             rw (at_sides, y_is, across_is, q_is, from_is, c.found_is, c.gone_is, c.below_is, c.own_is)
             (rw (c.other_is, c.side_is, c.first_is, c.second_is, c.inside_is, c.next_is, c.set_is)
-            (rw l.kind_is (jointly p x count ds d u _ _ _ _ _ _ (sym b_is ∙ not-false b named) h)))
+            (rw l.kind_is (jointly p x count ds d u _ _ _ _ _ _ (sym b_is ∙ named) h)))

@@ -19,9 +19,12 @@ use Rattle.weights.specs.declared.Weight.{Weight}
 use Rattle.weights.specs.declared.Weighed.{Weighed}
 use Rattle.weights.specs.declared.Weighed.TheVariants.{Derived, Nothing}
 
--- an event's tag is one of two
-abbrev pub Tagged : Event → ℕ → ℕ → Type 0
-Tagged e m n = (tag_of (declared enum) e ≡ m) ⊎ (tag_of (declared enum) e ≡ n)
+-- an event is no ✓, and it is none that is shown
+abbrev pub NoTick : Event → Type 0
+NoTick e = e ≡ Tick → ⊥
+
+abbrev pub NotVisible : Event → Type 0
+NotVisible e = (a : ℕ) → e ≡ Visible a → ⊥
 
 -- call, prefix, internal choice, SKIP and STOP
 module _ (k operand d : ℕ) (within : Bool) (at size : ℕ) where
@@ -69,11 +72,11 @@ module _ (k operand d : ℕ) (within : Bool) (at size : ℕ) where
     chosen_leaf h j i y p q = rw (is, q, p) (simp (le-leb 1 d (omega arith), le-leb d 2 j))
 
 -- a ✓ starts a sequence's right, another event starts nothing
-unless_tick : (e : Event) (w : Weight) → Tagged e 0 2 → Derived w ≡ started e w
+unless_tick : (e : Event) (w : Weight) → NoTick e → Derived w ≡ started e w
 unfolding started
 unless_tick Tau w t = refl
 unless_tick (Visible e) w t = refl
-unless_tick Tick w t = ⊎_elim (λ z. absurd (omega arith)) (λ z. absurd (omega arith)) t
+unless_tick Tick w t = absurd (t refl)
 
 module _ (found : Weighed) (within : Bool) where
   pub settled_nothing : found ≡ Nothing → found ≡ settled found within
@@ -86,7 +89,7 @@ module _ (found : Weighed) (within : Bool) where
     settled_outside h = rw (is, h)
 
     module _ (inside : within ≡ true) where
-      pub settled_on : Tagged w.event 0 2 → Derived w ≡ settled found within
+      pub settled_on : NoTick w.event → Derived w ≡ settled found within
       unfolding settled
       settled_on t = rw (is, inside) (unless_tick w.event w t)
 
@@ -182,20 +185,20 @@ module _ (k : ℕ) where
   unfolding shown
   shows_visible e v h = rw h
 
-  pub parts_silent : (x : ℕ) (e f : Event) → Tagged e 0 1 → false ≡ agree k x e f
+  pub parts_silent : (x : ℕ) (e f : Event) → NotVisible e → false ≡ agree k x e f
   unfolding agree
   parts_silent x Tau f t = refl
   parts_silent x Tick f t = refl
-  parts_silent x (Visible a) f t = ⊎_elim (λ z. absurd (omega arith)) (λ z. absurd (omega arith)) t
+  parts_silent x (Visible a) f t = absurd (t a refl)
 
-  pub parts_across : (x : ℕ) (e f : Event) (a : ℕ) → e ≡ Visible a → Tagged f 0 1 → false ≡ agree k x e f
+  pub parts_across : (x : ℕ) (e f : Event) (a : ℕ) → e ≡ Visible a → NotVisible f → false ≡ agree k x e f
   unfolding agree
   parts_across x e f a h t = rw h (go f t)
     where
-      go : (f : Event) → Tagged f 0 1 → false ≡ agree k x (Visible a) f
+      go : (f : Event) → NotVisible f → false ≡ agree k x (Visible a) f
       go Tau t = refl
       go Tick t = refl
-      go (Visible b) t = ⊎_elim (λ z. absurd (omega arith)) (λ z. absurd (omega arith)) t
+      go (Visible b) t = absurd (t b refl)
 
   module _ (parallel : k ≡ Kind.parallel) where
     pub stays_parallel : (e : Event) → true ≡ stays k e

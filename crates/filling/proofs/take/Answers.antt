@@ -41,30 +41,29 @@ begin-requires c = definition_room_is _ _ c.requires _ c.in-Definition.is
 pub returns-in-Term : goal.returns-in-Term
 unfolding seen_then waiting_then roots_then column_then
 returns-in-Term c =
-    let owes = (c.owe.ensures.value, c.owe.ensures.waiting_after) in
-    let told = rw c.in-Term.is (owes.0, (owes.1, (refl, (refl, (refl, refl))))) in
-    record { value = told.0; waiting_after = told.1.0; kinds_after = told.1.1.0; payloads_after = told.1.1.1.0; owners_after = told.1.1.1.1.0; roots_after = told.1.1.1.1.1 }
+    rw c.in-Term.is
+    (record { value = c.owe.ensures.value; waiting_after = c.owe.ensures.waiting_after; kinds_after = refl; payloads_after = refl; owners_after = refl; roots_after = refl })
 
 pub returns-in-Definition : goal.returns-in-Definition
 unfolding seen_then waiting_then roots_then column_then
 returns-in-Definition c =
-    let told = rw c.in-Definition.is (c.begin.ensures, (refl, (refl, (refl, (refl, refl))))) in
-    record { value = told.0; waiting_after = told.1.0; kinds_after = told.1.1.0; payloads_after = told.1.1.1.0; owners_after = told.1.1.1.1.0; roots_after = told.1.1.1.1.1 }
+    rw c.in-Definition.is
+    (record { value = c.begin.ensures; waiting_after = refl; kinds_after = refl; payloads_after = refl; owners_after = refl; roots_after = refl })
 
 pub returns-in-Opening : goal.returns-in-Opening
 unfolding seen_then waiting_then roots_then column_then
 returns-in-Opening c =
-    let told = rw c.in-Opening.is (refl, (refl, (refl, (refl, (refl, refl))))) in
-    record { value = told.0; waiting_after = told.1.0; kinds_after = told.1.1.0; payloads_after = told.1.1.1.0; owners_after = told.1.1.1.1.0; roots_after = told.1.1.1.1.1 }
+    rw c.in-Opening.is
+    (record { value = refl; waiting_after = refl; kinds_after = refl; payloads_after = refl; owners_after = refl; roots_after = refl })
 
 pub returns-in-Closing : goal.returns-in-Closing
 unfolding seen_then waiting_then roots_then column_then
 returns-in-Closing c =
-    let told = rw c.in-Closing.is (refl, (refl, (refl, (refl, (refl, refl))))) in
-    record { value = told.0; waiting_after = told.1.0; kinds_after = told.1.1.0; payloads_after = told.1.1.1.0; owners_after = told.1.1.1.1.0; roots_after = told.1.1.1.1.1 }
+    rw c.in-Closing.is
+    (record { value = refl; waiting_after = refl; kinds_after = refl; payloads_after = refl; owners_after = refl; roots_after = refl })
 
 pub returns-in-Wrong : goal.returns-in-Wrong
 unfolding seen_then waiting_then roots_then column_then
 returns-in-Wrong c =
-    let told = rw c.in-Wrong.is (refl, (refl, (refl, (refl, (refl, refl))))) in
-    record { value = told.0; waiting_after = told.1.0; kinds_after = told.1.1.0; payloads_after = told.1.1.1.0; owners_after = told.1.1.1.1.0; roots_after = told.1.1.1.1.1 }
+    rw c.in-Wrong.is
+    (record { value = refl; waiting_after = refl; kinds_after = refl; payloads_after = refl; owners_after = refl; roots_after = refl })
