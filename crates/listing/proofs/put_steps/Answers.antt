@@ -13,8 +13,7 @@ shape_of-out-in_default c = going_length c.loop-event.invariant
 pub returns-in_default : goal.returns-in_default
 returns-in_default c =
     let going = c.loop-event.invariant in
-    let behind = (c.play-played.ensures.counters_after, (c.play-played.ensures.digits_after, c.play-played.ensures.plays)) in
-    going_stops going (behind.0, behind.1.0) c.in_default.not-Stepped c.stopped.ensures
+    going_stops going (c.play-played.ensures.counters_after, c.play-played.ensures.digits_after) c.in_default.not-Stepped c.stopped.ensures
     c.requires
 
 pub put_event-end-requires : goal.put_event-end-requires
@@ -26,11 +25,9 @@ overflow_add-line c = omega (arith, c.loop-event.invariant.counted, c.loop-event
 pub loop-event-smaller : goal.loop-event-smaller
 loop-event-smaller c =
     let going = c.loop-event.invariant in
-    let behind = (c.play-played.ensures.counters_after, (c.play-played.ensures.digits_after, c.play-played.ensures.plays)) in
-    omega (arith, going_on going (behind.0, behind.1.0) c.in-Stepped.is)
+    omega (arith, going_on going (c.play-played.ensures.counters_after, c.play-played.ensures.digits_after) c.in-Stepped.is)
 
 pub loop-event-preserved : goal.loop-event-preserved
 loop-event-preserved c =
     let going = c.loop-event.invariant in
-    let behind = (c.play-played.ensures.counters_after, (c.play-played.ensures.digits_after, c.play-played.ensures.plays)) in
-    going_turn going (behind.0, behind.1.0) c.in-Stepped.is c.put_event-end.ensures
+    going_turn going (c.play-played.ensures.counters_after, c.play-played.ensures.digits_after) c.in-Stepped.is c.put_event-end.ensures

@@ -18,11 +18,10 @@ number_pairs-arcs_out-requires c =
 
 pub number_pairs-meetings_out-requires : goal.number_pairs-meetings_out-requires
 number_pairs-meetings_out-requires c =
-    let arcs = (c.number_pairs-arcs_out.ensures.graph_after, (c.number_pairs-arcs_out.ensures.spare_len, c.number_pairs-arcs_out.ensures.starts_after)) in
     let numbered = c.walk-nodes.ensures.labels_after in
     let nodes = nodes_most _ _ _ _ _ numbered in
     let blank = length-replicate {A = ℕ} track_words 0 in
-    record { nodes_le_reference_room = (omega (arith, nodes), omega (arith, c.at_most-2.ensures), omega (arith, c.at_most-2.ensures)); graph_len = (puts_long 0 (replicate track_words 0) _ _ _ blank arcs.0, arcs.1.0); by_index = nodes_above _ _ _ _ _ numbered }
+    record { nodes_le_reference_room = (omega (arith, nodes), omega (arith, c.at_most-2.ensures), omega (arith, c.at_most-2.ensures)); graph_len = (puts_long 0 (replicate track_words 0) _ _ _ blank c.number_pairs-arcs_out.ensures.graph_after, c.number_pairs-arcs_out.ensures.spare_len); by_index = nodes_above _ _ _ _ _ numbered }
 
 pub returns : goal.returns
 returns c =

@@ -12,17 +12,13 @@ returns-in_default c =
 pub returns-then-not-fits : goal.returns-then-not-fits
 returns-then-not-fits c =
     let lines = c.read_lines-read.ensures in
-    let shape = (c.has_shape-fits.ensures.value, (c.has_shape-fits.ensures.sides_after, (c.has_shape-fits.ensures.pending_after, (c.has_shape-fits.ensures.numbers_after, c.has_shape-fits.ensures.walked_after)))) in
-    let judged = rules_decide _ _ _ _ _ _ _ lines c.in-Accepted.is shape.0
+    let judged = rules_decide _ _ _ _ _ _ _ lines c.in-Accepted.is c.has_shape-fits.ensures.value
     c.if-not-fits.true in
-    let told = shape.1 in
-    record { held = judged; sides_after = told.0; pending_after = told.1.0; numbers_after = told.1.1.0; walked_after = told.1.1.1 }
+    record { held = judged; sides_after = c.has_shape-fits.ensures.sides_after; pending_after = c.has_shape-fits.ensures.pending_after; numbers_after = c.has_shape-fits.ensures.numbers_after; walked_after = c.has_shape-fits.ensures.walked_after }
 
 pub returns : goal.returns
 returns c =
     let lines = c.read_lines-read.ensures in
-    let shape = (c.has_shape-fits.ensures.value, (c.has_shape-fits.ensures.sides_after, (c.has_shape-fits.ensures.pending_after, (c.has_shape-fits.ensures.numbers_after, c.has_shape-fits.ensures.walked_after)))) in
-    let judged = rules_decide _ _ _ _ _ _ _ lines c.in-Accepted.is shape.0
+    let judged = rules_decide _ _ _ _ _ _ _ lines c.in-Accepted.is c.has_shape-fits.ensures.value
     c.if-not-fits.false in
-    let told = shape.1 in
-    record { held = judged; sides_after = told.0; pending_after = told.1.0; numbers_after = told.1.1.0; walked_after = told.1.1.1 }
+    record { held = judged; sides_after = c.has_shape-fits.ensures.sides_after; pending_after = c.has_shape-fits.ensures.pending_after; numbers_after = c.has_shape-fits.ensures.numbers_after; walked_after = c.has_shape-fits.ensures.walked_after }

@@ -7,10 +7,9 @@ use Rattle.saving.proofs.save.Goals as goal
 pub returns : goal.returns
 returns c =
     let lent = c.args in
-    let scratch = (c.number-counts.ensures.sides_after, (c.number-counts.ensures.pending_after, (c.number-counts.ensures.numbers_after, c.number-counts.ensures.spare_after))) in
     let done = assembled lent.kinds.now lent.owners.now lent.after.now lent.roots.now
     lent.nodes.now lent.track.now lent.counters.now _ _ _ _ _ _ _ _
     c.wide.ensures c.at_most.ensures
     c.take_marks.ensures c.wide-2.ensures c.wide-3.ensures
     c.number-counts.ensures.graph_after _ _ _ c.write-saved.ensures in
-    record { text_after = done.0; labels_after = refl; graph_after = refl; marks_after = refl; sides_after = scratch.0; pending_after = scratch.1.0; numbers_after = scratch.1.1.0; spare_after = scratch.1.1.1; saves = done.1 }
+    record { text_after = done.0; labels_after = refl; graph_after = refl; marks_after = refl; sides_after = c.number-counts.ensures.sides_after; pending_after = c.number-counts.ensures.pending_after; numbers_after = c.number-counts.ensures.numbers_after; spare_after = c.number-counts.ensures.spare_after; saves = done.1 }

@@ -42,7 +42,6 @@ pub loop-frame-preserved : goal.loop-frame-preserved
 loop-frame-preserved c =
     let said = sym c.in-Goes.is ∙ c.table_line-said.ensures in
     let more = sym c.closes.ensures ∙ c.if-closes.false in
-    let t = (c.take-s.ensures.value, (c.take-s.ensures.waiting_after, (c.take-s.ensures.kinds_after, (c.take-s.ensures.payloads_after, (c.take-s.ensures.owners_after, c.take-s.ensures.roots_after))))) in
-    going_turn c.loop-frame.invariant said more _ _ _ _ _ _ t.0 t.1.0 t.1.1.0 t.1.1.1.0
-    t.1.1.1.1.0
-    t.1.1.1.1.1
+    going_turn c.loop-frame.invariant said more _ _ _ _ _ _ c.take-s.ensures.value c.take-s.ensures.waiting_after c.take-s.ensures.kinds_after c.take-s.ensures.payloads_after
+    c.take-s.ensures.owners_after
+    c.take-s.ensures.roots_after

@@ -9,24 +9,22 @@ returns-then-head-ne-TABLE_STAMP c = record { graph_after = read_untouched _ _ _
 
 pub returns-in_default : goal.returns-in_default
 returns-in_default c =
-    let all = (c.read_track-read.ensures.graph_after, (c.read_track-read.ensures.reads, (c.read_track-read.ensures.marks_after, (c.read_track-read.ensures.track_after, (c.read_track-read.ensures.sides_after, (c.read_track-read.ensures.pending_after, (c.read_track-read.ensures.numbers_after, c.read_track-read.ensures.walked_after))))))) in
     let stamped = c.if-head-ne-TABLE_STAMP.false in
     record {
-      graph_after = read_refused _ _ _ _ _ _ _ _ _ _ stamped _ _ _ all.0 _ c.line_of_read.ensures _ c.of_read.ensures _ _
+      graph_after = read_refused _ _ _ _ _ _ _ _ _ _ stamped _ _ _ c.read_track-read.ensures.graph_after _ c.line_of_read.ensures _ c.of_read.ensures _ _
           c.in_default.is;
       walked_after = reading_cleared _ _ stamped _ (all_reading_cleared _ _ _ _ _ _
-          all.1.1.0 all.1.1.1.0 all.1.1.1.1.0 all.1.1.1.1.1.0 all.1.1.1.1.1.1.0
-          all.1.1.1.1.1.1.1);
+          c.read_track-read.ensures.marks_after c.read_track-read.ensures.track_after c.read_track-read.ensures.sides_after c.read_track-read.ensures.pending_after c.read_track-read.ensures.numbers_after
+          c.read_track-read.ensures.walked_after);
     }
 
 pub returns : goal.returns
 returns c =
-    let all = (c.read_track-read.ensures.graph_after, (c.read_track-read.ensures.reads, (c.read_track-read.ensures.marks_after, (c.read_track-read.ensures.track_after, (c.read_track-read.ensures.sides_after, (c.read_track-read.ensures.pending_after, (c.read_track-read.ensures.numbers_after, c.read_track-read.ensures.walked_after))))))) in
     let stamped = c.if-head-ne-TABLE_STAMP.false in
     record {
-      graph_after = read_accepted _ _ _ _ _ _ _ _ _ _ stamped _ _ _ all.0 _ c.line_of_read.ensures _
+      graph_after = read_accepted _ _ _ _ _ _ _ _ _ _ stamped _ _ _ c.read_track-read.ensures.graph_after _ c.line_of_read.ensures _
           c.in-Accepted.is;
       walked_after = reading_cleared _ _ stamped _ (all_reading_cleared _ _ _ _ _ _
-          all.1.1.0 all.1.1.1.0 all.1.1.1.1.0 all.1.1.1.1.1.0 all.1.1.1.1.1.1.0
-          all.1.1.1.1.1.1.1);
+          c.read_track-read.ensures.marks_after c.read_track-read.ensures.track_after c.read_track-read.ensures.sides_after c.read_track-read.ensures.pending_after c.read_track-read.ensures.numbers_after
+          c.read_track-read.ensures.walked_after);
     }

@@ -11,12 +11,11 @@ returns-then-unready-ne-DONE c =
 
 pub returns : goal.returns
 returns c =
-    let all = (c.save-saved.ensures.text_after, (c.save-saved.ensures.labels_after, (c.save-saved.ensures.graph_after, (c.save-saved.ensures.marks_after, (c.save-saved.ensures.sides_after, (c.save-saved.ensures.pending_after, (c.save-saved.ensures.numbers_after, (c.save-saved.ensures.spare_after, c.save-saved.ensures.saves)))))))) in
     let told = c.unready-unready.ensures in
     let ready = c.if-unready-ne-DONE.false in
     record {
-      text_after = save_written _ _ _ told _ _ _ _ _ _ _ _ _ ready _ _ all.0 _ _ c.of_saved.ensures c.length_of.ensures;
+      text_after = save_written _ _ _ told _ _ _ _ _ _ _ _ _ ready _ _ c.save-saved.ensures.text_after _ _ c.of_saved.ensures c.length_of.ensures;
       spare_after = work_cleared _ _ _ told _ ready _ (all_saving_cleared _ _ _ _ _ _ _
-          all.1.0 all.1.1.0 all.1.1.1.0 all.1.1.1.1.0 all.1.1.1.1.1.0
-          all.1.1.1.1.1.1.0 all.1.1.1.1.1.1.1.0);
+          c.save-saved.ensures.labels_after c.save-saved.ensures.graph_after c.save-saved.ensures.marks_after c.save-saved.ensures.sides_after c.save-saved.ensures.pending_after
+          c.save-saved.ensures.numbers_after c.save-saved.ensures.spare_after);
     }
