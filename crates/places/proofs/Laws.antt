@@ -116,12 +116,12 @@ tells (leaf l) [] = (omega arith, refl)
 tells (leaf l) (x ∷ w) = tt
 tells (prefix e t) [] = (omega arith, refl)
 tells (prefix e t) (x ∷ w) =
-    tells_if _ x w 1 _ _ (tells_event e t w)
-    (tells_if _ x w 2 _ none (tells_inward w _ (only e t) (tells t w)) tt)
+    tells_if (prefix e t) x w 1 _ _ (tells_event e t w)
+    (tells_if (prefix e t) x w 2 _ none (tells_inward w _ (only e t) (tells t w)) tt)
 tells (binary o t u) [] = (omega arith, refl)
 tells (binary o t u) (x ∷ w) =
-    tells_if _ x w 1 _ _ (tells_inward w _ (first o t u) (tells t w))
-    (tells_if _ x w 2 _ none (tells_inward w _ (second o t u) (tells u w)) tt)
+    tells_if (binary o t u) x w 1 _ _ (tells_inward w _ (first o t u) (tells t w))
+    (tells_if (binary o t u) x w 2 _ none (tells_inward w _ (second o t u) (tells u w)) tt)
 
 -- and nowhere else; no literal of a right-hand side stands at the left-hand side's path
 pub own_only : (t : Term) (w : List ℕ) (n : ℕ) → literal_at t w ≡ some (own n)

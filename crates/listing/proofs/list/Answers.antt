@@ -13,7 +13,7 @@ pub slice_bounds-list_script-count : goal.slice_bounds-list_script-count
 slice_bounds-list_script-count c = rw c.table_end-end.ensures (table_within _)
 
 pub slice_bounds-list_script-start : goal.slice_bounds-list_script-start
-slice_bounds-list_script-start c = sub-list-script c
+slice_bounds-list_script-start c = rw c.table_end-end.ensures (table_within _)
 
 pub returns-in-Refused : goal.returns-in-Refused
 returns-in-Refused c =

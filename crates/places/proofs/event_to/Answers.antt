@@ -25,7 +25,7 @@ bounds-path-length c =
     omega arith
 
 pub overflow_add-result : goal.overflow_add-result
-overflow_add-result c = omega (arith, element-write-path c)
+overflow_add-result c = omega (arith, bounds-path-length c)
 
 pub returns : goal.returns
 returns c =
