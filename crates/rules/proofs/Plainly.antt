@@ -127,3 +127,8 @@ module _ (ts : List Term) where
       or_left (plain_τ P) (offers-✓ P) (plainly_silent P h)
   plainly_silent (sequence w b P Q) (sequential_composition_2 h t) =
       or_right (plain_τ P) (offers-✓ P) (plainly_ends P h)
+  plainly_silent (leaf w SKIP) {q = q} x3 = elim x3 [ ]
+  plainly_silent (leaf w STOP) {q = q} x4 = elim x4 [ ]
+  plainly_silent (prefix _ _ _) {q = q} x5 = elim x5 [ ]
+  plainly_silent Ω {q = q} x3 = elim x3 [ ]
+  plainly_silent ⊥' {q = q} x4 = elim x4 [ ]

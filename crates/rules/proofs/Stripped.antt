@@ -261,6 +261,9 @@ module _ {ts : List Term} where
       (_, λ s. (_, synchronized_parallelism_4 (Ω-stripped P t) (Ω-stripped Q t'), refl, refl))
   addressed (sequence w b P Q) (Fig3.sequential_composition_1 h n) = (_, reaches_on (addressed P h).1 n)
   addressed (sequence w b P Q) (Fig3.sequential_composition_2 h t) = (_, reaches_over (addressed P h).1 refl)
+  addressed (leaf w Term.STOP) {e = e} {q = q} x3 = elim x3 [ ]
+  addressed Ω {e = e} {q = q} x'' = elim x'' [ ]
+  addressed ⊥' {e = e} {q = q} x3 = elim x3 [ ]
 
 -- every plain step has an address, from every process that strips to where it starts, wherever that stands
 pub plainly_tracked : (ts : List Term) {p q : Plain} {e : Event} → Steps ts p e q

@@ -367,7 +367,7 @@ pub data Within (R : Process) (r : ℕ) : Process → ℕ → Type 0 where
   in_sequence : {w : Place} {b : Bool} {m : ℕ} {P Q : Process}
       → Within R r P m → Within R r (sequence w b P Q) m
 
-pub within_total : {ts : List Term} (x : Scale ts) (g : List Pair) {R P : Process} {r m : ℕ} → Within R r P m
+pub within_total : {ts : List Term} (x : Scale ts) (g : List Pair) {R : Process} {r : ℕ} {P : Process} {m : ℕ} → Within R r P m
     → total x g r R ≤ total x g m P
 unfolding total
 within_total x g here = omega arith

@@ -10,6 +10,7 @@ use Rattle.marks.specs.code.Followed as of
 use Rattle.marks.proofs.Followed.{found_end, found_leaf, found_first, found_event, found_astray}
 use Rattle.marks.proofs.Followed.{found_last}
 use Rattle.marks.proofs.path.find.Goals as goal
+use Rattle.marks.proofs.path.find.Goals.{then-digit-eq1+else-below-ne2, else-digit-eq1+else-digit-ne2}
 
 pub loop-i-init : goal.loop-i-init
 loop-i-init c = refl
@@ -56,13 +57,12 @@ loop-i-preserved c =
     let count = c.subterms-below.ensures ∙ ap subterms c.kind_of.ensures in
     let on : ℕ → ℕ = λ u. of.find ks xs u (drop (c.loop-i.i + 1) (read_bytes c.args.chars.now)) in
     c.loop-i.invariant
-    ∙ ⊎_elim
-    (λ w. found_first _ ks xs _ _ more digit count c.if-below-eq0.false w.0.taken w.1.left
-    ∙ sym (ap on w.2))
-    (λ w. found_last _ ks xs _ _ more digit count c.if-below-eq0.false w.0.left w.1.left
-    w.2.ensures
-    ∙ sym (ap on w.3))
-    c.if-digit-eq1.branch
+    ∙ elim c.if-digit-eq1.branch [
+      then-digit-eq1+else-below-ne2 w ↦ found_first _ ks xs _ _ more digit count c.if-below-eq0.false
+      w.if-digit-eq1.true w.if-below-ne2.false ∙ sym (ap on w.term-is)
+    | else-digit-eq1+else-digit-ne2 w ↦ found_last _ ks xs _ _ more digit count c.if-below-eq0.false
+      w.if-digit-eq1.false w.if-digit-ne2.false w.last_subterm-term.ensures ∙ sym (ap on w.term-is)
+    ]
 
 pub returns : goal.returns
 returns c =
