@@ -124,6 +124,7 @@ line_heard l {bs} i r wrong-met none_met =
   where
     bytes_of : (bs : List ℕ) → Frames (bs ∷ []) → Bytes bs
     bytes_of (b ∷ bs) (frame_first h t) = h
+    bytes_of [] x' = elim x' [ ]
 
 -- frames are those that are due, one by one
 pub data Fitted (d n : ℕ) : List Due → List Frame → Type 0 where
@@ -232,6 +233,7 @@ fitted_split d n (x ∷ xs) ys (f ∷ fs) (fitted_first fit t) =
       front_fitted = fitted_first fit p.front_fitted;
       back_fitted = p.back_fitted;
     }
+fitted_split d n (x ∷ xs) ys [] t = elim t [ ]
 
 -- what frames that are all due as one kind are made of
 pub record Run {A : Type 0} (made : A → Frame) (P : A → Type 0) (k : ℕ) (fs : List Frame) : Type 0 where
@@ -259,3 +261,5 @@ module _ (d n : ℕ) {A : Type 0} (x : Due) (made : A → Frame) (P : A → Type
         count = ap suc r.count;
         each = each_first a.2 r.each;
       }
+  run_of one zero (f ∷ fs) x3 = elim x3 [ ]
+  run_of one (suc k) [] x4 = elim x4 [ ]

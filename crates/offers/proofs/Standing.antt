@@ -248,7 +248,7 @@ module _ (l : Layout) (p x w : List ℕ) where
           sides_told v k i j P Q,
         )
         (sym (state_entered (state w n) _ (nested ks) _ _ (omega (arith, h.enters))
-        (λ z. omega (arith, h.enters)) (ap not fit)))
+        (λ z. omega (arith, h.enters)) fit))
 
     pub offers_told : (P : Process) → Told P
     unfolding cells

@@ -4,13 +4,16 @@ use mathlib.Core.Path.{◌∙◌}
 use mathlib.Core.Logic.{⊎_elim}
 use Rattle.drawing.proofs.Laws.{arc_counted, arc_put, arc_left_out}
 use Rattle.drawing.proofs.arc.Goals as goal
+use Rattle.drawing.proofs.arc.Goals.{then-at-lt-ARC_ROOM, else-at-lt-ARC_ROOM}
 
 pub returns : goal.returns
 returns c =
     record {
       value = arc_counted _ _ c.sum.ensures;
-      track_after = ⊎_elim
-          (λ y. y.5 ∙ arc_put _ _ _ _ y.0.taken _ _ y.2.ensures y.4.ensures)
-          (λ y. y.1 ∙ arc_left_out _ _ _ _ y.0.left)
-          c.if-at-lt-ARC_ROOM.branch;
+      track_after = elim c.if-at-lt-ARC_ROOM.branch [
+        then-at-lt-ARC_ROOM w ↦
+            w.track-is
+            ∙ arc_put _ _ _ _ w.if-at-lt-ARC_ROOM.true _ _ w.put_track.ensures w.put_track-2.ensures
+      | else-at-lt-ARC_ROOM w ↦ w.track-is ∙ arc_left_out _ _ _ _ w.if-at-lt-ARC_ROOM.false
+      ];
     }

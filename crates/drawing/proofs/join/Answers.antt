@@ -5,6 +5,7 @@ use native.Mathlib.Nat.{sub-zero}
 use Rattle.drawing.proofs.Laws.{joined_past, joined_end, joined_turn, parts_kept}
 use native.Mathlib.Omega.{arith}
 use Rattle.drawing.proofs.join.Goals as goal
+use Rattle.drawing.proofs.join.Goals.{then-leads, else-leads}
 
 pub loop-i-init : goal.loop-i-init
 loop-i-init c = rw sub-zero
@@ -34,8 +35,10 @@ loop-i-preserved c =
     joined_turn _ _ _ _ _ _ _ c.loop-i-test.true c.if-i-ge-ARC_ROOM.false _ _ _
     c.track_word-from.ensures c.track_word-target.ensures
     c.leads.ensures _ _
-    (⊎_elim (λ y. inl (y.0.taken, y.4 ∙ y.2.ensures.0, y.3 ∙ y.2.ensures.1))
-    (λ y. inr (y.0.left, y.2, y.1)) c.if-leads.branch)
+    (elim c.if-leads.branch [
+      then-leads w ↦ inl (w.if-leads.true, w.kept-is ∙ w.arc.ensures.value, w.track-is ∙ w.arc.ensures.track_after)
+    | else-leads w ↦ inr (w.if-leads.false, w.kept-is, w.track-is)
+    ])
     ∙ c.loop-i.invariant
 
 pub returns : goal.returns

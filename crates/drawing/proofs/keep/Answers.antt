@@ -4,13 +4,14 @@ use mathlib.Core.Path.{◌∙◌}
 use mathlib.Core.Logic.{⊎_elim}
 use Rattle.drawing.proofs.Laws.{met_counted, met_put, met_left_out}
 use Rattle.drawing.proofs.keep.Goals as goal
+use Rattle.drawing.proofs.keep.Goals.{then-at-lt-NODE_ROOM, else-at-lt-NODE_ROOM}
 
 pub returns : goal.returns
 returns c =
     record {
       value = met_counted _ _ c.sum.ensures;
-      track_after = ⊎_elim
-          (λ y. y.3 ∙ met_put _ _ _ y.0.taken _ y.2.ensures)
-          (λ y. y.1 ∙ met_left_out _ _ _ y.0.left)
-          c.if-at-lt-NODE_ROOM.branch;
+      track_after = elim c.if-at-lt-NODE_ROOM.branch [
+        then-at-lt-NODE_ROOM w ↦ w.track-is ∙ met_put _ _ _ w.if-at-lt-NODE_ROOM.true _ w.put_track.ensures
+      | else-at-lt-NODE_ROOM w ↦ w.track-is ∙ met_left_out _ _ _ w.if-at-lt-NODE_ROOM.false
+      ];
     }

@@ -4,13 +4,16 @@ use mathlib.Core.Path.{◌∙◌}
 use mathlib.Core.Logic.{⊎_elim}
 use Rattle.drawing.proofs.Laws.{meeting_counted, meeting_put, meeting_left_out}
 use Rattle.drawing.proofs.meet.Goals as goal
+use Rattle.drawing.proofs.meet.Goals.{then-at-lt-MEETING_ROOM, else-at-lt-MEETING_ROOM}
 
 pub returns : goal.returns
 returns c =
     record {
       value = meeting_counted _ _ c.sum.ensures;
-      track_after = ⊎_elim
-          (λ y. y.5 ∙ meeting_put _ _ _ _ y.0.taken _ _ y.2.ensures y.4.ensures)
-          (λ y. y.1 ∙ meeting_left_out _ _ _ _ y.0.left)
-          c.if-at-lt-MEETING_ROOM.branch;
+      track_after = elim c.if-at-lt-MEETING_ROOM.branch [
+        then-at-lt-MEETING_ROOM w ↦
+            w.track-is
+            ∙ meeting_put _ _ _ _ w.if-at-lt-MEETING_ROOM.true _ _ w.put_track.ensures w.put_track-2.ensures
+      | else-at-lt-MEETING_ROOM w ↦ w.track-is ∙ meeting_left_out _ _ _ _ w.if-at-lt-MEETING_ROOM.false
+      ];
     }

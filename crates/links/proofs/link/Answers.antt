@@ -6,6 +6,7 @@ use native.Mathlib.Omega.{arith}
 use Rattle.links.proofs.LinkLaws.{fit_turn, linked_turn, fits_lost, fits_kept}
 use Rattle.links.proofs.LinkLaws.{linking_over}
 use Rattle.links.proofs.link.Goals as goal
+use Rattle.links.proofs.link.Goals.{then-not-fit, else-not-fit}
 
 pub loop-i-init : goal.loop-i-init
 loop-i-init c = (omega arith, rw c.at_most-count.ensures (min-le_right _ _), refl, refl)
@@ -31,13 +32,15 @@ loop-i-preserved c =
     let fits = c.loop-i.fits in
     let linking = c.link_arc-fit in
     let fit = fit_turn _ _ _ _ _ _ _ _ _ _ _ c.loop-i-test.true c.track_word-from.ensures
-    c.track_word-to.ensures linking.ensures in (
+    c.track_word-to.ensures (linking.ensures.value, linking.ensures.sides_after) in (
       omega arith,
       known.1,
-      known.2 ∙ ⊎_elim (λ w. fits_lost fits _ linking.result _ _ fit w.0.taken w.1)
-          (λ w. fits_kept fits _ linking.result _ _ fit w.0.left w.1) c.if-not-fit.branch,
+      known.2 ∙ elim c.if-not-fit.branch [
+        then-not-fit w ↦ fits_lost fits _ linking.result _ _ fit w.if-not-fit.true w.fits-is
+      | else-not-fit w ↦ fits_kept fits _ linking.result _ _ fit w.if-not-fit.false w.fits-is
+      ],
       known.3 ∙ linked_turn _ _ _ _ _ _ _ _ _ _ _ c.loop-i-test.true c.track_word-from.ensures
-          c.track_word-to.ensures linking.ensures,
+          c.track_word-to.ensures (linking.ensures.value, linking.ensures.sides_after),
     )
 
 pub returns : goal.returns

@@ -1,9 +1,9 @@
 use Prim.Native.Nat.{◌-◌}
-use mathlib.Core.Logic.{⊎_elim}
 use native.Mathlib.Omega.{arith}
 use Rattle.looking.proofs.LookLaws.{none_counted, counted_past, counted_all, counted_on}
 use Rattle.looking.proofs.LookLaws.{one_found, none_found}
 use Rattle.looking.proofs.parents.Goals as goal
+use Rattle.looking.proofs.parents.Goals.{then-leads, else-leads}
 
 pub loop-i-init : goal.loop-i-init
 loop-i-init c = none_counted _ _ _ _
@@ -28,10 +28,12 @@ loop-i-smaller c = omega arith
 
 pub loop-i-preserved : goal.loop-i-preserved
 loop-i-preserved c =
-    let came = ⊎_elim (λ y. one_found _ _ _ y.0.taken y.1)
-    (λ y. none_found _ _ _ y.0.left y.1) c.if-leads.branch in
     counted_on _ _ _ _ _ _ c.loop-i.invariant c.loop-i-test.true c.if-i-ge-ARC_ROOM.false
-    _ _ c.track_word-to.ensures c.leads.ensures _ came
+    _ _ c.track_word-to.ensures c.leads.ensures c.if-leads.found
+    (elim c.if-leads.branch [
+      then-leads w ↦ one_found _ _ _ w.if-leads.true w.found-is
+    | else-leads w ↦ none_found _ _ _ w.if-leads.false w.found-is
+    ])
 
 pub returns : goal.returns
 returns c = counted_all _ _ _ _ _ _ c.loop-i.invariant c.loop-i-test.false
