@@ -25,7 +25,7 @@ if __name__ == "__main__":  # as a command, too, packages are found from the rep
     sys.path[0] = str(pathlib.Path(__file__).resolve().parents[1])
 
 from tools import csp, words
-from tools.csp import CALL, KINDS, MOST_DEFINITIONS, MOST_EVENTS, PARALLEL, PATH_ROOM, PREFIX, TERM_ROOM, Show, Term
+from tools.csp import CALL, KINDS, MOST_DEFINITIONS, MOST_EVENTS, PARALLEL, PATH_ROOM, PREFIX, SKIP, TERM_ROOM, Show, Term
 
 TABLE_ROOM = 32_768  # bytes of text
 EDITION = 0x01
@@ -193,6 +193,16 @@ def with_paths(terms):
         yield path, term
         first = 2 if term.kind == PREFIX else 1  # at 1 of a prefix is its event
         waiting += [(*path, first + part) for part in reversed(range(KINDS[term.kind][1]))]
+
+
+def skips_in(given):
+    """The places of the SKIPs of the table at the front of some bytes, by definition and path; none of a refused one."""
+    try:
+        bodies = read_table(given).bodies
+    except Refused:
+        return set()
+    placed = ((number, path, term) for number, terms in enumerate(bodies) for path, term in with_paths(terms))
+    return {(number, path) for number, path, term in placed if term.kind == SKIP}
 
 
 def chosen_names(what, count, given, taken):

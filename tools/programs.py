@@ -18,7 +18,6 @@ SECONDS_FOR_ONE_INPUT = 30
 SECONDS_BETWEEN_LOOKS = 0.0005
 MOST_LOOKS = 2_000
 BYTES_AT_A_TIME = 65_536
-INPUT_ROOM = 262_144  # bytes that the program takes that takes the most
 NOBODY = 65_534
 
 
@@ -123,13 +122,6 @@ def answer_of(started, given):
     return answer_from(started, input=given)
 
 
-def trouble_free(program, answer):
-    """What a program printed that ended well."""
-    if answer.trouble:
-        raise Trouble(f"the program {program} did not end well: {' '.join(answer.trouble.split())}")
-    return answer.output
-
-
 # ---- an input that comes as it is read
 
 
@@ -147,7 +139,7 @@ class Feeding(threading.Thread):
     def __init__(self, pipe, files):
         super().__init__(daemon=True)  # a file from which nothing comes holds nobody up
         self.pipe, self.files, self.fault = pipe, files, None
-        self.front = b""  # of what was handed over, as much as a program takes and a byte
+        self.front = b""  # of what was handed over, so many bytes as have room for a table
 
     def run(self):
         try:
@@ -162,7 +154,7 @@ class Feeding(threading.Thread):
 
     def hand_over(self, file):
         while piece := os.read(file.fileno(), BYTES_AT_A_TIME):
-            self.front += piece[: INPUT_ROOM + 1 - len(self.front)]
+            self.front += piece[: BYTES_AT_A_TIME - len(self.front)]
             write_all(self.pipe, piece)
 
 

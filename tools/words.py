@@ -1,15 +1,21 @@
-"""What the views read and speak in: the frames of a listing, names, refusals in words, and words beside each other.
+"""A listing of the tracking program, told in words.
 
-In a file of names each line is one of
+    ./run FILE | python3 tools/words.py [NAMES]
+
+reads the listing and nothing else, so it cannot tell a part that has ended from one that waits; `./run --words`, which has
+the table at hand, can. What has no name in the file NAMES is told by its number. There each line is one of
 
     definition N NAME
     event N NAME
 
 or blank. N is 0 to 63, or 0x0 to 0x3f, and is named once. NAME goes to the end of its line and may have blanks in it.
-A comment goes from -- to the end of its line, and begins the line or has a blank before it.
+A comment goes from -- to the end of its line, and begins the line or has a blank before it. A line that is none of a
+listing's, or none of names, is an error, told with its number; status 1.
 """
 
+import pathlib
 import re
+import sys
 
 STEP, STATUS, REFUSAL, COUNTS, NODE, ARC, MEETING, LAST = 0x40, 0x41, 0x4E, 0x30, 0x31, 0x32, 0x33, 0x3F
 
@@ -26,12 +32,19 @@ FRAMES = {  # how each is written, and which may stand behind it
 
 NAMED, MOST_NUMBER = ("definition", "event"), 63  # what has names, and its highest number
 
-LIVE, ENDED, STUCK = range(3)
+ENDED = 1
 STATUSES = (
     "live (more can happen)",
     "ended (came to its successful end)",
     "stuck (dead: no cue can come any more; the script may still step a STOP)",
 )
+REST_WORDS = (
+    "Control has come as far as these nodes, which nothing follows yet. If a cue was held, look here:",
+    "Control came to its end at these nodes, which nothing follows:",
+    "Control came to rest at these nodes, which nothing follows. If a cue was held, look here:",
+)
+SOUND_WORDS = "These have come to their own end, at SKIP, and are sound:"
+REST_NOTE = "A part that never took a step has no node; a choice's side that was given up keeps its nodes."
 EXPORT_AGAIN = "Export the text from the desk again, copy the whole of it, and do not edit it by hand."
 MEND = "Have the programmer mend or shorten the definition that stands before this line."
 RUN_IN_PARTS = "The steps above stand. Run the rehearsal in shorter parts."
@@ -149,7 +162,13 @@ def read_names(text):
     return names
 
 
-# ---- refusals
+# ---- telling
+
+
+def event_words(step, names):
+    """The event of a step."""
+    name = names.get(("event", step[-1]), step[-1])
+    return ("silent step (τ)", "successful end (✓)", f"event {name}")[step[1]]
 
 
 def refusal_words(refusal, text):
@@ -161,41 +180,82 @@ def refusal_words(refusal, text):
     return [f"refused, number {refusal[1]}{where}: {what}{more}", f"  {to_do}"]
 
 
-def framed_refusal(output):
-    """The first frame of a refusal in a listing, and the text that its line is counted in; or None."""
-    found = re.search(b"^4e[0-9a-f]{6}$", output, re.MULTILINE)
-    text = "script" if re.search(b"^41", output, re.MULTILINE) else "table"
-    return found and (bytes.fromhex(found[0].decode("ascii")), text)
+def place_words(node, names):
+    """The place of a node."""
+    definition = names.get(("definition", node[3]), f"definition {node[3]}")
+    path = ".".join(map(str, node[5:]))
+    if path == "0":
+        return f"left-hand side of {definition}"
+    return f"{definition} at {path}" if path else f"{definition}, the whole right-hand side"
 
 
-def judged_refusal(output):
-    """The same of the refusal that judge tells."""
-    found = re.search(b"^(table|script) refused ([0-9]+) at line ([0-9]+)$", output, re.MULTILINE)
-    return found and (bytes([REFUSAL, int(found[2]), *divmod(int(found[3]), 256)]), found[1].decode("ascii"))
+def grouped(pairs):
+    """For each second end its first ends, in words."""
+    ends = {}
+    for i, j in pairs:
+        ends[j] = f"{ends[j]}, {i}" if j in ends else str(i)
+    return ends
 
 
-def first_refusal(program, output):
-    """The first refusal that a program prints, in words; none where it prints none."""
-    found = judged_refusal(output) if program == "judge" else framed_refusal(output)
-    if not found:
-        return ""
-    frame, text = found
-    return refusal_words(frame, "table or of the track" if program == "reread" else text)[0]
+def node_lines(places, arcs, meetings):
+    """Each node with its place, what came before it and whom it met."""
+    wide = max(map(len, places), default=0)
+    before, met = grouped(arcs), grouped(sorted(meetings + [[j, i] for i, j in meetings]))
+    for number, place in enumerate(places):
+        links = f"after {before[number]}" if number in before else "the start"
+        yield f"node {number:<4} {place:<{wide}}  {links}" + (f"; met {met[number]}" if number in met else "")
 
 
-# ---- words beside each other
+def listed(heading, numbers, places):
+    """Nodes below a heading, which stands only where there are some."""
+    return [heading, *(f"  node {number:<4} {places[number]}" for number in numbers)] if numbers else []
 
 
-def listed(some, last="and", most=None):
-    """Words with commas between them, the last with a word before it; of many the first `most`, and how many more."""
-    some = list(some)
-    if most and len(some) > most + 1:
-        some = [*some[:most], f"{len(some) - most} more"]
-    return f" {last} ".join([", ".join(some[:-1]), some[-1]]) if some[1:] else "".join(some)
+def rest_lines(places, arcs, status, at_skip):
+    """The nodes that nothing follows: where to look, and apart from these the SKIPs of parts that have ended."""
+    followed = {i for i, _ in arcs}
+    at_rest = [number for number in range(len(places)) if number not in followed]
+    sound = [] if status == ENDED else [number for number in at_rest if number in at_skip]
+    to_look_at = [number for number in at_rest if number not in sound]
+    return [*listed(REST_WORDS[status], to_look_at, places), *listed(SOUND_WORDS, sound, places), REST_NOTE]
 
 
-def columns(rows, widest=None):
-    """Rows of words as lines: a column is as wide as its widest word, or `widest`; one without words is left out."""
-    widths = [max(min(len(word), widest or len(word)) for word in column) for column in zip(*rows)]
-    for row in rows:
-        yield "  ".join(f"{word:<{width}}" for word, width in zip(row, widths) if width).rstrip()
+def words_of(frames, names, skips=()):
+    """A listing in words: its steps, its status, its refusals and its track, as far as it has them.
+
+    `skips` are the places of the table's SKIPs, by definition and path, where the table is at hand.
+    """
+    steps = enumerate(of_kind(STEP, frames), 1)
+    lines = [f"step {number}: {event_words(step, names)}" for number, step in steps]
+    statuses = [frame[1] for frame in of_kind(STATUS, frames)]
+    lines += [f"status: {STATUSES[status]}" for status in statuses]
+    for refusal in of_kind(REFUSAL, frames):
+        lines += refusal_words(refusal, "script" if statuses else "table")
+    if of_kind(COUNTS, frames):
+        nodes = of_kind(NODE, frames)
+        places = [place_words(node, names) for node in nodes]
+        at_skip = {number for number, node in enumerate(nodes) if (node[3], tuple(node[5:])) in skips}
+        arcs, meetings = ([numbers_of(pair[1:]) for pair in of_kind(kind, frames)] for kind in (ARC, MEETING))
+        lines.append(f"track: nodes {len(places)}, arcs {len(arcs)}, meetings {len(meetings)}")
+        lines += node_lines(places, arcs, meetings)
+        lines += rest_lines(places, arcs, statuses[0], at_skip) if places else ["No step was accepted."]
+    return lines
+
+
+def text_in_words(listing, names, skips=()):
+    """The text of a listing, bytes, in words, bytes too."""
+    lines = words_of(read_listing(listing.decode("latin-1")), names, skips)
+    return "".join(line + "\n" for line in lines).encode("utf-8")
+
+
+def main():
+    try:
+        names = read_names(pathlib.Path(sys.argv[1]).read_text("utf-8")) if sys.argv[1:] else {}
+        text = text_in_words(sys.stdin.buffer.read(), names)
+    except (Fault, OSError, UnicodeDecodeError) as fault:
+        sys.exit(f"words: {fault}")
+    sys.stdout.buffer.write(text)
+
+
+if __name__ == "__main__":
+    main()

@@ -469,7 +469,7 @@ S = event_0 -> event_1 -> event_2 -> event_3 -> event_4 -> S [] S
         for spelt in (table.upper(), table.replace(b"\n", b"\r\n"), table.upper().replace(b"\n", b"\r\n", 3)):
             for script in (b"", b"200000\r\n"):
                 self.assertEqual(desk.told(spelt + script, {}), desk.told(table, {}))
-                self.assertEqual(desk.read_table(spelt + script).bodies, desk.read_table(table).bodies)
+                self.assertEqual(desk.skips_in(spelt + script), desk.skips_in(table))
 
     def test_long_lines_are_folded(self):
         self.assertEqual(csp.written(desk.compiled(self.FOLDED).show), self.FOLDED)

@@ -6,17 +6,17 @@ The listings are the independent program's.
 import re
 import unittest
 
-from tests.checks.asked import EXAMPLES, ask, example
 from tests.independent.frames import cut_input
 from tests.independent.rules import listing
-from tools import telling, why, words
-from tools.given import given_of_source
+from tools import desk, words
+from tools.programs import REPOSITORY
 
+EXAMPLES = REPOSITORY / "examples"
 README = (EXAMPLES / "README.md").read_text("utf-8")
 COUNTS = re.findall(r"^\| (\S+) \| (\d+) \| (live|ended|stuck) \| (\d+) \| (\d+) \|$", README, re.MULTILINE)
 SECTIONS = dict(re.findall(r"^## (\S+)\n(.*?)(?=^## |\Z)", README, re.MULTILINE | re.DOTALL))
 SHOWS = ("casino", "held", "ends-well")
-QUOTED = re.compile(r"^    ((?!\./run ).*)", re.MULTILINE)
+QUOTED_WORDS = re.compile(r"^    ((?:  )?(?:step|status|refused|node|Control|These) .*)", re.MULTILINE)
 
 
 def given(show):
@@ -29,8 +29,10 @@ def listed(show):
 
 
 def told(show):
-    """The lines of a show's words, and of what is told of why it stands as it does."""
-    return [line for view in (telling.view, why.view) for line in view(example(show), ask).splitlines()]
+    """The lines of a show's words, by its names."""
+    names = words.read_names((EXAMPLES / f"{show}.names").read_text("utf-8"))
+    frames = words.read_listing(listing(given(show)).decode("ascii"))
+    return words.words_of(frames, names, desk.skips_in(given(show)))
 
 
 class Shows(unittest.TestCase):
@@ -52,22 +54,15 @@ class Shows(unittest.TestCase):
 
     def test_quoted_words(self):
         for show in SHOWS:
-            quoted = QUOTED.findall(SECTIONS[show])
+            quoted = QUOTED_WORDS.findall(SECTIONS[show])
             self.assertGreaterEqual(len(quoted), 5, show)
             self.assertLessEqual(set(quoted), set(told(show)), show)
 
-    def test_why_of_held_whole(self):
-        """Of the script, and of what a rack's card has; only the refused line is told of the script alone."""
-        told_why = why.view(example("held"), ask)
-        quoted = "\n".join(QUOTED.sub(r"\1", line) for line in SECTIONS["held"].splitlines())
-        self.assertIn(told_why, quoted)
-        card = given_of_source(str(EXAMPLES / "held.csp"), (EXAMPLES / "held.track").read_bytes())
-        lines = told_why.splitlines()
-        self.assertEqual(why.view(card, ask).splitlines(), lines[:1] + lines[2:])
-
-    def test_the_track_of_held(self):
-        listing_of_held = listing(given("held"))
-        self.assertEqual((EXAMPLES / "held.track").read_bytes(), listing_of_held[listing_of_held.index(b"30") :])
+    def test_no_rack_that_has_ended_is_one_to_look_at(self):
+        lines = told("held")
+        look, sound = lines.index(words.REST_WORDS[2]), lines.index(words.SOUND_WORDS)
+        racks = [line.split()[2].strip(",") for line in lines[look + 1 : sound]]
+        self.assertEqual((racks, lines[sound + 1].split()[2]), (["FRONT", "BACK"], "HOUSE"))
 
     def test_quoted_frames(self):
         for show in SHOWS:

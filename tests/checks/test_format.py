@@ -7,16 +7,13 @@ with a frame. In tables and sentences `/` stands for LF and `\\r` for CR.
 import re
 import unittest
 
-from tests.checks.asked import ask
 from tests.checks.cases import KEPT
 from tests.independent import frames, rules, saved
 from tests.independent.frames import (
     CALL, EXTERNAL_CHOICE, INTERNAL_CHOICE, KINDS, PARALLEL, PREFIX, SEQUENCE, SKIP, STOP, Refusal,
 )
 from tests.independent.rules import BOTTOM, OMEGA, TAU, TICK, Tree, text_of
-from tools import desk, telling, words
-from tools.given import Given
-from tools.inside import parts_of, read_inside
+from tools import desk, words
 from tools.programs import REPOSITORY
 
 PAGE = (REPOSITORY / "docs" / "FORMAT.md").read_text("utf-8")
@@ -24,7 +21,7 @@ FENCED = re.compile(r"^```(\w+) ?(\S*)\n(.*?)^```$", re.MULTILINE | re.DOTALL)
 BLOCKS = {(kind, name): body.splitlines() for kind, name, body in FENCED.findall(PAGE)}
 HELD = {  # the blocks that the tests look at
     *((kind, "cue") for kind in ("csp", "table", "places")), ("steps", ""), ("statuses", ""), ("track", "case-a"),
-    *((kind, "racks") for kind in ("csp", "table", "names", "run", "words", "inside")),
+    *((kind, "racks") for kind in ("csp", "table", "names", "run", "words")),
 }
 SCRIPT, LISTING = ("run", "racks", 0), ("run", "racks", 10)  # beside each other
 CASE_A = re.search(r"Case A is `(.*?)`: the table `(.*?)`,\s+and the script `(.*?)`", PAGE).groups()
@@ -122,7 +119,7 @@ class Frames(unittest.TestCase):
 
     def test_forms(self):
         shown = [in_code(row[3]) for row in rows("no.")]
-        for place in (("table", "cue"), ("table", "racks"), ("track", "case-a"), ("inside", "racks"), SCRIPT, LISTING):
+        for place in (("table", "cue"), ("table", "racks"), ("track", "case-a"), SCRIPT, LISTING):
             shown += frames_of(*place)
         forms, used = [in_code(form) for form, _ in rows("form")], set()
         for frame in shown:
@@ -337,20 +334,9 @@ class Show(unittest.TestCase):
         listed = frames_text(*LISTING)
         self.assertEqual(rules.listing(frames_text("table", "racks") + frames_text(*SCRIPT)), listed)
         names = words.read_names(block_text("names", "racks"))
-        told = telling.view(Given(frames_text("table", "racks") + frames_text(*SCRIPT), names), ask)
+        told = words.words_of(words.read_listing(listed.decode("ascii")), names)
         parts = block_text("words", "racks").split("..\n")
-        self.assertRegex(told, "^" + "(.*\n)+".join(map(re.escape, parts)) + "$")
-
-    def test_the_inside(self):
-        """Behind the fifth line; and of what stands in a part which numbers have a place, and which sides."""
-        script = text_of(frames_of(*SCRIPT)[:5]).encode("ascii")
-        told = rules.play_listing(frames_text("table", "racks") + script)
-        self.assertEqual(told, frames_text("inside", "racks"))
-        kinds = {int(ss, 16): (place == "yes", sides == "yes") for ss, _, place, sides in rows("ss")}
-        for text in (told, rules.play_listing(frames_text("table", "cue") + 3 * b"200000\n")):
-            for part in parts_of(read_inside(text).whole):
-                self.assertEqual(kinds[part.standing], (part.place is not None, bool(part.sides)))
-        self.assertEqual(list(kinds), list(range(5)))
+        self.assertRegex(text_of(told), "^" + "(.*\n)+".join(map(re.escape, parts)) + "$")
 
     def test_lines_of_names(self):
         above = block_text("names", "racks")

@@ -5,7 +5,6 @@ The kit's `rt` takes a script for a program: what that prints is the front of it
 
 import os
 import pathlib
-import re
 import shutil
 import signal
 import subprocess
@@ -17,9 +16,7 @@ from unittest import mock
 
 from tools import programs, words
 from tools.programs import NOBODY, REPOSITORY
-from tools.run import HELP, OTHER_OPTIONS, PROGRAMS, VIEWS, Asked, asked_for
-from tools.streams import Misuse
-from tools.words import first_refusal
+from tools.run import HELP, OTHER_OPTIONS, PROGRAMS, Asked, Misuse, asked_for, first_refusal
 
 ROOM = 98_305
 PROGRAM = f"#!/bin/sh\n{{begun}}\nexec head -c {ROOM}\n"
@@ -30,13 +27,6 @@ echo "$@" >> "{kit}/calls"
 mkdir -p target/bin target/stamp
 . "{kit}/script"
 cp "{kit}/program" "target/bin/$2"
-"""
-INDEPENDENT = """\
-import sys
-sys.path[0] = sys.argv[1]
-from tests.independent import rules, saved
-tell = {'track': rules.listing, 'play': rules.play_listing, 'reread': saved.reread_listing}[sys.argv[2]]
-sys.stdout.buffer.write(tell(sys.stdin.buffer.read()))
 """
 LOADER = '#!/bin/sh\nshift 2\nexec "$@"\n'
 CRATES = "# programs\nlow:\nmiddle: low\nbeside:\ntrack: middle low io\nplay: low\njudge: low\nreread: low\n"
@@ -197,8 +187,9 @@ class Building(OwnHouse):
 
     def test_each_program_by_itself(self):
         for option, program in PROGRAMS.items():
-            self.assertEqual(self.at.outcome(*filter(None, [option]))[::2], (LISTING, 0))
-            self.assertEqual(self.at.calls()[-1], f"check {program}")
+            if option != "--words":
+                self.assertEqual(self.at.outcome(*filter(None, [option]))[::2], (LISTING, 0))
+                self.assertEqual(self.at.calls()[-1], f"check {program}")
 
     def test_what_is_told_goes_to_no_file(self):
         self.assertEqual(self.at.outcome_in_shell("2>&-")[::2], (LISTING, 0))
@@ -236,93 +227,15 @@ class AtOnce(OwnHouse):
         self.assertEqual((printed, told.startswith(self.WAITS), status), (LISTING, True, 0))
 
 
-class Views(SharedHouse):
-    """The programs are the independent one's, and the shows those under examples/."""
-
-    @classmethod
-    def setUpClass(cls):
-        super().setUpClass()
-        for folder in ("tests/independent", "examples"):
-            shutil.copytree(REPOSITORY / folder, cls.at.folder / folder)
-        cls.at.put("kit/template", f'#!/bin/sh\nexec {sys.executable} -S -B -c "{INDEPENDENT}" {cls.at.folder} NAME\n')
-        cls.at.let_rt('sed "s/NAME/$2/" {kit}/template > {kit}/program')
-        cls.at.put("bin/setpriv", '#!/bin/sh\nshift 4\nexec "$@"\n', 0o755)  # nobody may have no python
-
-    def lines(self, *arguments, **how):
-        """The lines that are printed, those told on standard error that are of no proof, and the exit status."""
-        printed, told, status = self.at.outcome(*arguments, **how)
-        told = [line for line in told.splitlines() if not line.startswith("run: proving")]
-        return printed.decode("utf-8").splitlines(), told, status
-
-    def test_words(self):
-        lines, told, status = self.lines("--words", "examples/held.txt")
-        self.assertEqual((lines[0], status), ("steps 1 to 4: silent (τ)", 1))
-        self.assertEqual(told, [f"run: refused, number 7, line 8 of the script: {words.REFUSAL_WORDS[7][0]}"])
-
-    def test_every_view_of_a_script_and_of_a_saved_track(self):
-        for option in set(VIEWS) - {"--step"}:
-            for show in ("casino", "case-a-track"):
-                lines, told, status = self.lines(option, f"examples/{show}.txt")
-                self.assertEqual((told, status), ([], 0), (option, show))
-                self.assertGreater(len(lines), 2, (option, show))
-
-    def test_csp_text_in_place_of_a_table(self):
-        script = self.at.put("start.script", "200000\n")
-        for arguments in ((), ("--why",), ("--steps",), ("--play",)):
-            lines, told, status = self.lines(*arguments, "examples/held.csp", script)
-            self.assertEqual((told, status), ([], 0))
-            self.assertTrue(lines)
-        fault = self.at.put("fault.csp", "A = a ->\n")
-        for arguments in ((), ("--why",)):
-            _, told, status = self.lines(*arguments, fault)
-            self.assertEqual((told[0], status), (f"run: {fault}, line 1, column 9: expected a process, found the end", 2))
-
-    def test_what_is_refused_as_a_whole(self):
-        table = self.at.put("short.table", "10010100\n1100\n1207\n1f0002\n")
-        for option in (*VIEWS, "--play"):
-            lines, told, status = self.lines(option, table, given=b"")
-            self.assertEqual(status, 1, option)
-            self.assertTrue(told[0].startswith("run: refused, number 3, line 4 of the table"), told)
-            self.assertEqual(bool(lines), option not in ("--play", "--draw", "--colour-html"), option)
-
-    def test_a_track_that_no_run_leaves(self):
-        track = "3001000200010000\n310000000100\n310001000101\n3200000001\n3f\n"
-        made_up = self.at.put("made-up.txt", "10010100\n1100\n1203\n1207\n1208\n1f0003\n" + track)
-        for option in set(VIEWS) - {"--words", "--step"}:
-            lines, told, status = self.lines(option, made_up)
-            self.assertEqual((lines, len(told), status), ([], 1, 1), option)
-        lines, _, status = self.lines("--words", made_up)
-        self.assertEqual((lines[0], status), ("track: nodes 2, arcs 1, meetings 0", 0))
-
-    def test_steps_that_are_chosen(self):
-        lines, _, status = self.lines("--step", "examples/held.csp", given=b"1\n1\nend\n")
-        self.assertEqual((len(lines), lines[0], status), (2, "200000", 0))
-        lines, _, status = self.lines("--step", "examples/held.txt", given=b"")
-        self.assertEqual((len(lines), status), (7, 0))  # the eighth was refused
-        self.assert_one_line(self.at.outcome("--step"), 2, "--step")
-
-    def test_the_walks_of_the_first_page(self):
-        """Every command of a newcomer's, a technician's, a desk's and a card's walk works as it stands there."""
-        (self.at.folder / "run").symlink_to(self.at.house / "run")
-        page = (REPOSITORY / "README.md").read_text("utf-8")
-        self.at.put("show.csp", re.search(r"(?:^    (?:channel|[A-Z]+ +=) .*\n)+", page, re.MULTILINE)[0])
-        walks = page[page.index("## Run it") : page.index("## From C and Rust")]
-        commands = re.findall(r"^    (\./run .*)", walks, re.MULTILINE)
-        self.assertEqual(len(commands), 13)
-        for command in commands:
-            printed, told, status = self.at.outcome("-c", command, command="/bin/sh", given=b"1\n1\n1\nend\n")
-            self.assertEqual((status, "Traceback" in told), ("held.txt" in command, False), told)
-            written = command.partition("> ")[2]
-            self.assertTrue((self.at.folder / written).read_bytes() if written else printed, command)
-
-    def test_names_beside_the_first_file(self):
-        self.at.put("named/show.names", "event 3 BLÄCKOUT\n")
-        table = "10010104\n1100\n120203\n1207\n1f0002\n200000\n200000\n"
-        for name in ("show.txt", "show.table", "show"):
-            show = self.at.put(f"named/{name}", table)
-            self.assertIn("step 2: BLÄCKOUT", self.lines(show, "--words")[0], name)
-        self.at.put("named/show.names", "event three\n")
-        self.assert_one_line(self.at.outcome(show, "--words"), 2, "show.names", "line 1 of the names")
+class Words(OwnHouse):
+    def test_the_table_at_the_front_tells_what_has_ended(self):
+        self.at.put("kit/program", "#!/bin/sh\nexec sed '1,/^1[fF]/d'\n")  # prints what stands behind the table
+        track = b"4100\n3001000200010000\n310000000100\n3100010000\n3200000001\n3f\n"
+        for kind, heading in ((b"1207", words.SOUND_WORDS), (b"1208", words.REST_WORDS[0])):
+            table = b"10010100\n1100\n" + kind + b"\n1f0001\n"
+            for spelt in (table, table.upper().replace(b"\n", b"\r\n")):
+                lines = self.at.outcome("--words", given=spelt + track)[0].decode("utf-8").splitlines()
+                self.assertEqual(lines[-3:-1], [heading, "  node 1    definition 0, the whole right-hand side"])
 
 
 class Proving(OwnHouse):
@@ -438,7 +351,7 @@ class NothingToBuild(SharedHouse):
 
 class Options(unittest.TestCase):
     def test_in_any_order(self):
-        for option in (*list(PROGRAMS)[1:], *VIEWS, *OTHER_OPTIONS):
+        for option in (*list(PROGRAMS)[1:], *OTHER_OPTIONS):
             self.assertEqual(asked_for([option, "a", "b"]), Asked(option, ["a", "b"]))
             self.assertEqual(asked_for(["a", option, "b"]), Asked(option, ["a", "b"]))
             self.assertIn(f"\n  {option} ", HELP)
@@ -480,6 +393,7 @@ class Refusals(unittest.TestCase):
         judged = b"table accepted 1 1 5\nstep 1 -\nscript refused 3 at line 258\n"
         self.assertEqual(self.told("judge", judged), "refused, number 3, line 258 of the script")
         self.assertEqual(self.told("judge", b"table refused 2 at line 1\n"), "refused, number 2, line 1 of the table")
+        self.assertTrue(first_refusal("play", b""))
 
 
 class Command(SharedProgram):
@@ -489,10 +403,21 @@ class Command(SharedProgram):
 
     def test_refused(self):
         self.assertEqual(self.at.outcome(given=REFUSED_STEP), (REFUSED_STEP, REFUSAL, 1))
+        in_words = words.text_in_words(REFUSED_STEP, {})
+        self.assertEqual(self.at.outcome("--words", given=REFUSED_STEP), (in_words, REFUSAL, 1))
 
     def test_several_files(self):
         front = self.at.put("front", "4000\n4000\n")
         self.assertEqual(self.at.outcome(front, "-", self.show, given=b"4001\n")[0], b"4000\n4000\n4001\n" + LISTING)
+
+    def test_names_beside_the_first_file(self):
+        self.at.put("named/show.names", "event 3 BLÄCKOUT\n")
+        for name in ("show.txt", "show.table", "show"):
+            show = self.at.put(f"named/{name}", "400203\n" + LISTING.decode("ascii"))
+            printed, _, status = self.at.outcome(show, "--words")
+            self.assertEqual((printed.decode("utf-8").splitlines()[0], status), ("step 1: event BLÄCKOUT", 0))
+        self.at.put("named/show.names", "event three\n")
+        self.assert_one_line(self.at.outcome(show, "--words"), 2, "show.names", "line 1 of the names")
 
     def test_links_and_folders(self):
         (self.at.folder / "bin" / "first").symlink_to(self.at.house / "run")

@@ -271,11 +271,6 @@ def offers(control):
     return {{PREFIX: control.term.payload, SKIP: TICK}.get(control.term.kind, TAU)}
 
 
-def shown_bits(offered):
-    """The events of some offers as bits of 8 bytes."""
-    return sum(1 << event for event in offered - {TAU, TICK})
-
-
 def plain_step(control, event):
     """Whether Fig. 3 has a step by the event from the control, stripped: references and places apart, bottom a STOP."""
     control = opened(control)
@@ -347,13 +342,9 @@ def text_of(lines):
     return "".join(line + "\n" for line in lines)
 
 
-def place_bytes(place):
-    return "%02x%02x%s" % (place.definition, len(place.path), bytes(place.path).hex())
-
-
 def node_bytes(number, place):
     """A node's number and place, as a node's line tells them behind its first byte."""
-    return "%04x%s" % (number, place_bytes(place))
+    return "%04x%02x%02x%s" % (number, place.definition, len(place.path), bytes(place.path).hex())
 
 
 def walk(labels, arcs_from):
@@ -407,20 +398,22 @@ def script_step(run, line, line_number):
     return event._replace(line=line_number) if isinstance(event, Refusal) else event
 
 
-def stepped(run, script_text):
-    """Steps the run by a script, up to the first line that is refused; gives each event, and last the Refusal."""
+def play_script(run, script_text):
+    """Steps the run by a script, up to the first line that is refused; gives the events, and the Refusal or None."""
+    events = []
     for line_number, line in enumerate(split_lines(script_text), 1):
         event = script_step(run, line, line_number)
-        yield event
         if isinstance(event, Refusal):
-            return
+            return events, event
+        events.append(event)
+    return events, None
 
 
 def run_listing(run, script_text):
     """Steps the run by a script, and tells each step, the status, and the refusal where there is one."""
-    told = list(stepped(run, script_text))
-    refusals = [refusal_line(told.pop())] if told and isinstance(told[-1], Refusal) else []
-    return [event_line(event) for event in told] + ["41%02x" % status(run.control)] + refusals
+    events, refusal = play_script(run, script_text)
+    lines = [event_line(event) for event in events] + ["41%02x" % status(run.control)]
+    return lines + ([refusal_line(refusal)] if refusal else [])
 
 
 def run_and_script(given):
@@ -451,7 +444,8 @@ def listing(given):
 
 def offers_line(control):
     offered = offers(control)
-    return "42%02x%02x%016x" % (TAU in offered, TICK in offered, shown_bits(offered))
+    visible = sum(1 << event for event in offered - {TAU, TICK})
+    return "42%02x%02x%016x" % (TAU in offered, TICK in offered, visible)
 
 
 def counters_line(run):
@@ -460,31 +454,9 @@ def counters_line(run):
     return "43" + "%04x" * 6 % (run.reference, track.fresh, cells(run.control), *made)
 
 
-def standing(control):
-    """What stands in a control, told as entered: the sequences around it are passed."""
-    control = opened(control)
-    return standing(control.left) if isinstance(control, Started) else control
-
-
-def part_lines(control, reference):
-    """A part of the control with its reference, None where it has not stepped, and then its sides."""
-    offered, there = offers(control), standing(control)
-    told = "%04x%02x%02x%02x%016x" % (
-        reference or 0, TAU in offered, plain_step(control, TAU), TICK in offered, shown_bits(offered)
-    )
-    if there in (OMEGA, BOTTOM):
-        return ["44%02x%s" % ({OMEGA: 3, BOTTOM: 4}[there], told)]
-    told += place_bytes(there.term.place)
-    if not isinstance(there, Sides):
-        return ["4400" + told]
-    entered = there.left_reference is not None or there.right_reference is not None
-    sides = part_lines(there.left, there.left_reference) + part_lines(there.right, there.right_reference)
-    return ["44%02x%s" % (2 if entered else 1, told), *sides]
-
-
 def inside_of(run):
-    """What is offered, the parts of the control, and the track by its references, arcs and meetings in the order made."""
-    lines = [offers_line(run.control), *part_lines(run.control, run.reference)]
+    """What is offered, the counters, and the track by its references, arcs and meetings in the order made."""
+    lines = [offers_line(run.control), counters_line(run)]
     lines += ["51" + node_bytes(*label) for label in sorted(run.track.labels)]
     lines += ["52%04x%04x" % arc for arc in run.track.arcs]
     lines += ["53%04x%04x" % meeting for meeting in run.track.meetings]
@@ -497,9 +469,8 @@ def play_listing(given):
     if isinstance(begun, Refusal):
         return b""
     run, script_text = begun
-    counters = [counters_line(run)]
-    counters += [counters_line(run) for event in stepped(run, script_text) if not isinstance(event, Refusal)]
-    return (text_of(counters) + inside_of(run)).encode("ascii")
+    play_script(run, script_text)
+    return inside_of(run).encode("ascii")
 
 
 def outcome(told):
@@ -520,8 +491,8 @@ def play_outcome(told):
     """In a word what play's listing comes to: `unplayed` where it is empty, or whether the run offers anything."""
     if not told:
         return "unplayed"
-    offered = next(line for line in told.split(b"\n") if line.startswith(b"42"))
-    return "offering" if offered[2:].strip(b"0") else "resting"
+    offered = told.split(b"\n", 1)[0].removeprefix(b"42")
+    return "offering" if offered.strip(b"0") else "resting"
 
 
 if __name__ == "__main__":
