@@ -26,11 +26,11 @@ SILENT_LINE = re.compile(r"(?:pub\s+)?mod\s|infix[lr]?\s")
 DATA = re.compile(rf"({MARKS})(data|record)\s+({NAME})")
 MEMBER = re.compile(rf"^\s+(?:pub\s+)?({NAME})(?=\s*:(?:\s|$))", re.MULTILINE)  # a constructor or a field
 SIGNATURE = re.compile(rf"({MARKS})({NAME})(?:\s*\{{[^}}]*\}})?\s*:(?=\s|$)")
-CRATE_MODULE = re.compile(r"(?:package\.)?Rattle·(\w+?)(·specs|·proofs)?\.(specs|proofs)((?:\.[^.]+)*)")
-DECLARED_MODULE = re.compile(r"(?:package\.)?Rattle·(\w+?)(?:·specs)?\.specs\.declared\.(\w+)")
+CRATE_MODULE = re.compile(r"Rattle\.(\w+)\.(specs|proofs)((?:\.[^.]+)*)")
+DECLARED_MODULE = re.compile(r"Rattle\.(\w+)\.specs\.declared\.(\w+)")
 
 RATTLE_SILENT = re.compile(r'//[^\n]*|b?"(?:\\.|[^"\\])*"|b\'(?:\\.|[^\'\\])\'')
-RATTLE_USE = re.compile(r"^(?P<public>pub )?use\s+(?P<path>[\w:]+)(?:\s+as\s+(?P<local>\w+))?;", re.MULTILINE)
+RATTLE_USE = re.compile(r"^(?P<public>pub )?use\s+(?P<tree>[^;]+);", re.MULTILINE)
 RATTLE_MOD = re.compile(r"^(?P<public>pub )?mod\s+(?P<name>\w+);", re.MULTILINE)
 RATTLE_ITEM = re.compile(
     r"^(?P<public>pub\s+)?(?P<extern>extern\s+)?(?P<kind>fn|const|struct|enum|type|impl)(?:<[^<>]*>)?\s+(?P<name>\w+)",
@@ -38,6 +38,7 @@ RATTLE_ITEM = re.compile(
 )
 RATTLE_PATH = re.compile(r"(?<![\w.])(?P<path>[A-Za-z_]\w*(?:::[A-Za-z_]\w*)*)(?P<call>\()?")
 CLAUSE = re.compile(r"\b(?:requires|ensures|ghost)\b\s*\w*\s*\{")
+TACTIC = re.compile(r"^\s*#!?\[tactic\((.*?)\)\]$", re.MULTILINE | re.DOTALL)
 
 Import = namedtuple("Import", "line module item local public")  # in antt; the item is None of a module itself
 Use = namedtuple("Use", "line path local public")  # in Rattle; a path is a tuple
@@ -86,9 +87,9 @@ def antt_code(text):
 def file_of(module):
     """The file of a crate's module, by its path in a `use` line; None where it is no crate's, or made of src/."""
     found = CRATE_MODULE.fullmatch(module)
-    if not found or found[4].startswith(".declared."):
+    if not found or found[3].startswith(".declared."):
         return None
-    crate, _, folder, below = found.groups()
+    crate, folder, below = found.groups()
     return f"crates/{crate}/{folder}{below.replace('.', '/') or '/Lib'}.antt"
 
 
@@ -128,7 +129,7 @@ def cited_paths(code):
 
 def modules_cited(imports, paths):
     """The modules that `use` lines name, and those that whole paths do."""
-    whole = {path for path in paths if path.startswith("Rattle·")}
+    whole = {path for path in paths if path.startswith("Rattle.")}
     return {one.module for one in imports} | {path.rpartition(".")[0] for path in whole}
 
 
@@ -140,7 +141,7 @@ def modules_of(text):
 
 def spellings(name):
     """How a name is written where it is cited: an operator by one of its parts, or whole."""
-    parts = [] if name.startswith("«") else [part for part in name.split("_") if part]
+    parts = [] if name.startswith("«") else [part for part in name.split("◌") if part]
     return {name, *parts}
 
 
@@ -260,8 +261,35 @@ def rattle_paths(code):
 def uses_of(code):
     """What the `use` lines of a file bring in."""
     for use in RATTLE_USE.finditer(code):
-        path = tuple(use["path"].split("::"))
-        yield Use(line_at(code, use.start()), path, use["local"] or path[-1], bool(use["public"]))
+        for place, path, local in leaves_of(use["tree"]):
+            yield Use(line_at(code, use.start("tree") + place), path, local, bool(use["public"]))
+
+
+def branches_of(tree):
+    """The pieces of a `use` line between commas that stand in no bracket, each with its place."""
+    start = depth = 0
+    for place, sign in enumerate(f"{tree},"):
+        depth += (sign == "{") - (sign == "}")
+        if sign == "," and not depth:
+            branch = tree[start:place].strip()
+            if branch:
+                yield tree.index(branch, start), branch
+            start = place + 1
+
+
+def leaves_of(tree, above=()):
+    """What a `use` line brings in, by `a::{b, c as d}` several at once: a place in the line, a path, and the name that it has."""
+    for place, branch in branches_of(tree):
+        head, bracket, below = branch.partition("{")
+        words = head.split()
+        path = (*above, *filter(None, words[0].split("::")))
+        if bracket:
+            for further, *leaf in leaves_of(below.rpartition("}")[0], path):
+                yield (place + len(head) + 1 + further, *leaf)
+        elif words == ["self"]:
+            yield place, above, above[-1]
+        else:
+            yield place, path, words[-1].split("::")[-1]
 
 
 def items_of(code):
@@ -293,7 +321,7 @@ class RattleFile:
         self.modules = {mod["name"]: bool(mod["public"]) for mod in RATTLE_MOD.finditer(code)}
         self.items = {item.name: item for item in items if item.kind != "impl"}
         self.ghost_imports = imports_of(code, ghost=True)
-        self.cited_by_contracts = set().union(*map(cited_paths, clauses))
+        self.cited_by_contracts = set().union(*map(cited_paths, clauses + TACTIC.findall(code)))
         self.ghost_modules = modules_cited(self.ghost_imports, self.cited_by_contracts)
         self.cited_elsewhere = set().union(
             *map(rattle_paths, clauses), *(item.cited for item in items if item.kind == "impl")

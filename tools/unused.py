@@ -30,6 +30,7 @@ Export = namedtuple("Export", "crate name file line target")  # the target is th
 
 ROOT = pathlib.Path(__file__).resolve().parent.parent
 TOLERATED = "wider"
+PROOF_FILES = ("/Answers.antt", "/Invariants.antt", "/Proof.antt")
 NOTHING = sources.AnttFile("")
 KINDS = {"fn": "function", "const": "constant", "struct": "type", "enum": "type", "type": "type"}
 
@@ -123,9 +124,9 @@ class Names:
     def targets(self, file, scope, path):
         """The declarations that a path may lead to; the `use` lines on the way are needed."""
         head, *rest = path.split(".")
-        head = head.strip("_") or head
-        if head.startswith("Rattle·") and len(rest) > 1:
-            return self.within(f"{head}.{rest[0]}", rest[1:])
+        head = head.strip("◌") or head
+        if head == "Rattle" and len(rest) > 2:
+            return self.within(".".join([head, *rest[:2]]), rest[2:])
         found = set()
         if rest and head in scope.modules:
             self.needed.add((file, scope.modules[head]))
@@ -150,11 +151,11 @@ class Names:
         return self.within(f"{module}.{name}", path[1:]) if path[1:] else set()
 
     def kept(self, file, name):
-        """Whether a declaration is there for its own sake: a function's proof, the law of its outcome, or a law that
-        documents name."""
-        if file.endswith("/Proof.antt") and name == file.split("/")[-2].replace("_", "-") + "-spec":
+        """Whether a declaration is there for its own sake: a part of a function's proof, the law of its outcome, or a
+        law that documents name."""
+        if is_answer(file, self.tree.antt[file].declarations[name]):
             return True
-        if file.startswith("crates/outcomes/proofs/") and name.endswith("-settled"):
+        if file.startswith("crates/outcomes/proofs/") and name.endswith("_settled"):
             return True
         return "/proofs/" in file and name in self.tree.documented
 
@@ -191,6 +192,12 @@ class Names:
             for one in brought:
                 if (file, one) not in self.needed:
                     yield Finding("use", file, one.line, one.local)
+
+
+def is_answer(file, declared):
+    """Whether a declaration is a part of a function's proof that Rattle asks for: its type has its name, as `goal.returns`."""
+    asked = {path.partition(".")[2] for path in declared.cited}
+    return file.endswith(PROOF_FILES) and (declared.name in asked or declared.name == f"{file.split('/')[-2]}_spec")
 
 
 # ---- Rattle: functions, constants, types

@@ -17,7 +17,7 @@ from tools import closure, sources, unused
 
 HEADINGS = ["frames", "rules", "saving", "programs"]
 HANDED_ABOUT = {"play": {"offering", "rules"}}  # an event in what a script's line comes to, and what is offered
-LOGIC_LIBRARIES = ("Prim", "mathlib", "lib")
+LOGIC_LIBRARIES = ("Prim.", "mathlib.", "lib.", "Rattle.std.specs.", "Rattle.std.proofs.")
 FRONT_PAGES = {"Lib.antt": "", "words.antt": "words/", "code.antt": "code/"}  # of specs/, and what each is of
 KINDS = {"": "meaning", "words": "words", "code": "code"}  # of definitions, by their folder below specs/
 
@@ -61,10 +61,10 @@ def misled_imports(root):
 
 
 def is_meaning(module):
-    """Whether a module is a file of meaning, a declared type or the logic's own."""
-    if module.split(".")[0] in LOGIC_LIBRARIES:
+    """Whether a module is a file of meaning, a declared type, or the logic's own, which std passes on."""
+    if module.startswith(LOGIC_LIBRARIES):
         return True
-    below = re.fullmatch(r"Rattle·\w+?(?:·specs)?\.specs\.(.+)", module)
+    below = re.fullmatch(r"Rattle\.\w+\.specs\.(.+)", module)
     return bool(below) and (below[1].startswith("declared.") or not re.search(r"\.|^(words|code)$", below[1]))
 
 
@@ -79,7 +79,7 @@ def listed_crates(root):
             heading = line[1:].strip() if line[1:].strip() in HEADINGS else heading
         elif line.strip():
             name, _, dependencies = line.partition(":")
-            yield heading, name.strip(), set(dependencies.split())
+            yield heading, name.split()[0], set(dependencies.split())
 
 
 def misheaded_crates(root):
@@ -111,7 +111,7 @@ def used_crates(root, crate):
 
 def crates_in_modules(modules):
     """The crates that modules are of, but for a crate's own."""
-    return set(re.findall(r"^(?:package\.)?Rattle·(\w+)\.", "\n".join(modules), re.MULTILINE))
+    return set(re.findall(r"^Rattle\.(\w+)\.", "\n".join(modules), re.MULTILINE))
 
 
 def crates_in_paths(rattle):
@@ -221,23 +221,36 @@ def unnamed_doors(root):
 
 
 def called_with_parts(root, one):
-    """Of a function that takes a block, the crate and the name of the one that it hands the block's parts on to."""
+    """Of a function that takes a block, or whose crate none can stand on, the crate and the name of the one that it calls alone."""
     text = sources.text_of(root, one.file)
     blocks = "|".join(re.findall(r"^pub struct (\w+) ", text, re.MULTILINE)) or "(?!)"
-    takes = rf'^pub extern "C" fn {one.name}\([^)]*&(?:mut )?(?:{blocks})\b'
-    calls = re.search(rf"{takes}.*?^\{{\n    (\w+)\(", text, re.MULTILINE | re.DOTALL)
-    return calls and re.search(rf"^use (\w+)::({calls[1]});", text, re.MULTILINE).groups()
+    takes = r"[^)]*" if one.crate in static_libraries(root) else rf"[^)]*&(?:mut )?(?:{blocks})\b"
+    function = rf'^pub (?:extern "C" )?fn {one.name}\({takes}.*?^\}}'
+    found = re.search(function, text, re.MULTILINE | re.DOTALL)
+    calls = found and re.search(r"\{\n    ([\w:]+)\([^;{}]*\);?\n\}", found[0])
+    if calls:
+        head, *below = calls[1].split("::")
+        paths = {use.local: use.path for use in sources.uses_of(sources.rattle_code(text))}
+        return (*paths.get(head, (head,)), *below)
+    return None
+
+
+def static_libraries(root):
+    """The crates that are built for C, on which no crate can stand."""
+    listed = sources.text_of(root, "crates.txt") if pathlib.Path(root, "crates.txt").is_file() else ""
+    return set(re.findall(r"^(\w+) +staticlib\b", listed, re.MULTILINE))
 
 
 def unsettled_functions(root):
     """Functions that other crates can call, and of which no law says that their promise settles the outcome.
 
     Of one that takes a block the check reads off no plain fact; it promises what the function over the block's parts does.
+    One that is exported by a static library promises what the function does that it hands all on to.
     """
     laws = "\n".join(sources.text_of(root, file) for file in sources.files(root, "outcomes/proofs/*.antt"))
     for one in exported_functions(root):
         crate, name = called_with_parts(root, one) or (one.crate, one.name)
-        law = f"{crate}-{name}-settled".replace("_", "-")
+        law = f"{crate}_{name}_settled"
         if not re.search(rf"^pub {re.escape(law)} : Settles\s", laws, re.MULTILINE):
             yield f"{one.crate}::{one.name}: no law {law}"
 
@@ -336,11 +349,11 @@ class Definitions(MadeUp):
 
     def test_meaning_imports_meaning(self):
         for module in (
-            "Rattle·b.specs.Line.{line}",
-            "Rattle·a·specs.specs.Line.{line as text}",
-            "Rattle·b.specs.Line as L",
-            "Rattle·b.specs.declared.Line.the-variants.{Found}",
-            "Prim.Native.Nat.{ℕ, _+_}",
+            "Rattle.b.specs.Line.{line}",
+            "Rattle.a.specs.Line.{line as text}",
+            "Rattle.b.specs.Line as L",
+            "Rattle.b.specs.declared.Line.TheVariants.{Found}",
+            "Prim.Native.Nat.{ℕ, ◌+◌}",
             "mathlib.Core.List.{[]}",
             "lib.Dec.{eqb}",
         ):
@@ -348,28 +361,28 @@ class Definitions(MadeUp):
 
     def test_meaning_imports_nothing_else(self):
         for module in (
-            "Rattle·b.specs.words.Held.{held}",
-            "Rattle·a·specs.specs.code.Take as take",
-            "Rattle·b.specs.code as c",
-            "Rattle·b.specs as b",
-            "Rattle·b.specs.{words.Held.held}",
-            "Rattle·b.proofs.Laws.{law}",
+            "Rattle.b.specs.words.Held.{held}",
+            "Rattle.a.specs.code.Take as take",
+            "Rattle.b.specs.code as c",
+            "Rattle.b.specs as b",
+            "Rattle.b.specs.{words.Held.held}",
+            "Rattle.b.proofs.Laws.{law}",
             "borrow.Author.Needs.{needs}",
         ):
             self.assertEqual(len(self.misled("a/specs/Table.antt", f"use {module}")), 1, module)
 
     def test_whole_paths_count(self):
         self.assertEqual(
-            self.misled("a/specs/Table.antt", "x = Rattle·b.specs.code.Take.take 0"),
-            ["crates/a/specs/Table.antt is meaning and imports Rattle·b.specs.code.Take"],
+            self.misled("a/specs/Table.antt", "x = Rattle.b.specs.code.Take.take 0"),
+            ["crates/a/specs/Table.antt is meaning and imports Rattle.b.specs.code.Take"],
         )
 
     def test_comments_do_not_count(self):
-        self.assertEqual(self.misled("a/specs/Table.antt", "-- use Rattle·b.specs.code.Take.{take}"), [])
+        self.assertEqual(self.misled("a/specs/Table.antt", "-- use Rattle.b.specs.code.Take.{take}"), [])
 
     def test_words_and_code_import_all(self):
-        self.assertEqual(self.misled("a/specs/words/Held.antt", "use Rattle·b.specs.code.Take.{take}"), [])
-        self.assertEqual(self.misled("a/specs/code/Take.antt", "use Rattle·b.specs.code.Put.{put}"), [])
+        self.assertEqual(self.misled("a/specs/words/Held.antt", "use Rattle.b.specs.code.Take.{take}"), [])
+        self.assertEqual(self.misled("a/specs/code/Take.antt", "use Rattle.b.specs.code.Put.{put}"), [])
 
     def test_three_kinds_and_front_pages(self):
         root = self.tree("""\
@@ -404,16 +417,16 @@ pub fn next() {
 mod sets;
 use lines::next;
 use sets::has;
-ghost use Rattle·tables·specs.specs.Table.{t};
+ghost use Rattle.tables.specs.Table.{t};
 == tables/src/sets.rt
 pub fn has() {
     io::write(1, b"sets::x()");
 }
 == tables/specs/Table.antt
-use Rattle·lines.specs.Line.{line}
--- Rattle·sets.specs.Told
+use Rattle.lines.specs.Line.{line}
+-- Rattle.sets.specs.Told
 == tables/proofs/check/Proof.antt
-use Rattle·tables·proofs.proofs.check.Tie as tie
+use Rattle.tables.proofs.check.Goals as goal
 == /crates.txt
 """
 
@@ -512,21 +525,70 @@ pub fn main() {
     def test_settled_by_name(self):
         root = self.tree(self.CRATES + """\
 == outcomes/proofs/Doors.antt
-pub walks-walk-settled : Settles walk.Learnt (λ κ x s. x)
--- pub walks-link-settled : Settles
+pub walks_walk_settled : Settles walk.Learnt (λ κ x s. x)
+-- pub walks_link_settled : Settles
 == outcomes/proofs/Inner.antt
-pub walks-wide-settled : Settles
+pub walks_wide_settled : Settles
     wide.Learnt (λ κ x s. x)
 """)
         self.assertEqual([fault.split(": ")[0] for fault in unsettled_functions(root)], ["walks::link"])
+
+    def test_settled_by_what_is_called(self):
+        root = self.tree("""\
+== blocks/src/lib.rt
+use parts::{begin_parts, end_parts};
+
+pub struct Block {
+    pub of: usize,
+}
+
+pub fn begin(block: &Block) -> u32
+    ensures { result ≡ 1 }
+{
+    begin_parts(block.of)
+}
+
+pub fn end(block: &mut Block) {
+    end_parts(
+        &mut block.of,
+    )
+}
+
+pub fn other() -> u32 {
+    begin_parts(1)
+}
+== exports/src/lib.rt
+use blocks::Block;
+
+#[unsafe(no_mangle)]
+pub extern "C" fn exported_other() -> u32 {
+    blocks::other()
+}
+
+#[unsafe(no_mangle)]
+pub extern "C" fn exported_twice() -> u32 {
+    blocks::other();
+    blocks::other()
+}
+== outcomes/proofs/Hosts.antt
+pub parts_begin_parts_settled : Settles
+pub blocks_other_settled : Settles
+== /crates.txt
+blocks: parts
+exports staticlib: blocks
+""")
+        self.assertEqual(list(unsettled_functions(root)), [
+            "blocks::end: no law parts_end_parts_settled",
+            "exports::exported_twice: no law exports_exported_twice_settled",
+        ])
 
 
 class Demands(MadeUp):
     def test_types_of_a_statement(self):
         root = self.tree("""\
 == a/proofs/Laws.antt
-use Rattle·a·specs.specs.Run.{Answer}
-use Rattle·a·proofs.proofs.Other.{Held, held-law}
+use Rattle.a.specs.Run.{Answer}
+use Rattle.a.proofs.Other.{Held, held_law}
 
 abbrev pub Kept : ℕ → Type 0
 Kept n = Unit {0}
@@ -535,10 +597,10 @@ module _ (n : ℕ)
     (h : Held n) where
   pub said : Answer
       → Answer
-  said = held-law n
+  said = held_law n
 
-  pub kept-on : Kept n
-  kept-on = Kept-too
+  pub kept_on : Kept n
+  kept_on = KeptToo
 
 pub plain : Answer
 plain = Kept
@@ -548,11 +610,11 @@ pub other : Kept 0
 | the customer's sentence | theorem | file |
 |---|---|---|
 | "a" | `said`, `a::door` | `Kept` |
-| "b" | `plain`; `kept-on` | |
+| "b" | `plain`; `kept_on` | |
 """)
         self.assertEqual(
             [fault.split(": ")[1] for fault in demands_in_own_words(root)],
-            ["said is stated with Held", "kept-on is stated with Held, Kept"],
+            ["said is stated with Held", "kept_on is stated with Held, Kept"],
         )
 
 
@@ -593,14 +655,14 @@ class Closure(MadeUp):
     def test_files_and_lines(self):
         root = self.tree("""\
 == a/specs/Top.antt
-use Rattle·a·specs.specs.Middle.{m}
+use Rattle.a.specs.Middle.{m}
 use Prim.Native.Nat.{ℕ}
 
 t : ℕ
 t = m
 == a/specs/Middle.antt
-use Rattle·b.specs.Low as Low
-use Rattle·b.specs.declared.Line.{Line}
+use Rattle.b.specs.Low as Low
+use Rattle.b.specs.declared.Line.{Line}
 == a/specs/Other.antt
 == b/specs/Low.antt
 -- A file of meaning.
@@ -624,10 +686,10 @@ class Unused(MadeUp):
         self.assertEqual(self.laws("one : ℕ", "one = 1", "two : one ≡ 1", "two = refl"), ["law two"])
 
     def test_names_are_whole(self):
-        self.assertEqual(self.laws("a-b : ℕ", "a-b = 1", "a-b′ : ℕ", "a-b′ = a + b"), ["law a-b", "law a-b′"])
+        self.assertEqual(self.laws("a_b : ℕ", "a_b = 1", "a_b' : ℕ", "a_b' = a + b"), ["law a_b", "law a_b'"])
 
     def test_projections_labels_comments_and_unfolding_are_no_use(self):
-        two = ("two : ℕ", "unfolding one", "two = record { one = 2; two = r .one } -- one")
+        two = ("two : ℕ", "unfolding one", "two = record { one = 2; two = r.one } -- one")
         self.assertEqual(self.laws("one : ℕ", "one = 1", *two), ["law one", "law two"])
 
     def test_what_only_the_unused_use(self):
@@ -658,17 +720,26 @@ By `one`.
 one : ℕ
 one = 1
 == a/proofs/next_line/Proof.antt
-pub next-line-spec : ℕ
-next-line-spec = 1
+pub next_line_spec : ℕ
+next_line_spec = 1
 
 help : ℕ
 help = 1
 """), ["law help"])
 
+    def test_what_rattle_asks_for_is_kept(self):
+        answers = "pub returns-then-n-lt2 : goal.returns-then-n-lt2\nreturns-then-n-lt2 c = c.if-n-lt2.true\n"
+        measure = "abbrev pub decreases-loop-i : goal.decreases-loop-i\ndecreases-loop-i l = l.i\n"
+        other = "pub returns : goal.loop-i-init\nreturns c = c\n"
+        folder = "== a/proofs/next_line"
+        self.assertEqual(self.found(f"{folder}/Answers.antt\n{answers}{folder}/Invariants.antt\n{measure}"), [])
+        self.assertEqual(self.found(f"{folder}/Answers.antt\n{other}"), ["law returns"])
+        self.assertEqual(self.found(f"== a/proofs/Laws.antt\n{measure}"), ["law decreases-loop-i"])
+
     def test_laws_of_outcomes_are_kept(self):
-        laws = "pub walks-walk-settled : ℕ\nwalks-walk-settled = 1\npub other : ℕ\nother = 1\n"
+        laws = "pub walks_walk_settled : ℕ\nwalks_walk_settled = 1\npub other : ℕ\nother = 1\n"
         self.assertEqual(self.found(f"== outcomes/proofs/Doors.antt\n{laws}"), ["law other"])
-        self.assertEqual(self.found(f"== a/proofs/Doors.antt\n{laws}"), ["law walks-walk-settled", "law other"])
+        self.assertEqual(self.found(f"== a/proofs/Doors.antt\n{laws}"), ["law walks_walk_settled", "law other"])
 
     def test_definitions(self):
         self.assertEqual(self.found("""\
@@ -685,17 +756,17 @@ pub record Lone : Type 0 where
 abbrev pub left : ℕ
 left = 1
 
-abbrev pub _+++_ : ℕ → ℕ
-_+++_ a = a
+abbrev pub ◌+++◌ : ℕ → ℕ
+◌+++◌ a = a
 
 abbrev pub gone : ℕ
 gone = 1
 == a/src/lib.rt
-ghost use Rattle·a·specs.specs.Line.{left, full, _+++_ as _also_};
+ghost use Rattle.a.specs.Line.{left, full, ◌+++◌ as ◌also◌};
 
-#[no_mangle]
+#[unsafe(no_mangle)]
 pub extern "C" fn f()
-    ensures { λ r. ⌜ {A = left} full also r ⌝ }
+    ensures { {A = left} full also result }
 {
 }
 """), ["definition Bare", "definition Lone", "definition gone"])
@@ -709,15 +780,15 @@ one = 1
 pub two : ℕ
 two = 2
 == b/specs/Table.antt
-use Rattle·a.specs.Line as line
-pub use Rattle·a.specs.Line.{two}
+use Rattle.a.specs.Line as line
+pub use Rattle.a.specs.Line.{two}
 
 pub x : ℕ
 x = line.one
 == b/proofs/Laws.antt
-use Rattle·b·specs.specs.Table.{two as also}
+use Rattle.b.specs.Table.{two as also}
 
-pub law : Rattle·b.specs.Table.x ≡ also
+pub law : Rattle.b.specs.Table.x ≡ also
 law = refl
 """), ["law law"])
 
@@ -726,19 +797,19 @@ law = refl
 == a/specs/Line.antt
 use Prim.Native.Nat.{
   ℕ,
-  _+_,
-  _*_,
+  ◌+◌,
+  ◌*◌,
   suc as next,
 }
 use mathlib.Core.List as List
-use Rattle·b.specs.Table as Table
+use Rattle.b.specs.Table as Table
 
 pub one : ℕ → List.List
 one n = n + n
 == a/src/lib.rt
 use b::gone;
 use b::here;
-ghost use Rattle·a·specs.specs.Line.{one};
+ghost use Rattle.a.specs.Line.{one};
 ghost use lib.ListN.{drop};
 
 fn main()
@@ -749,7 +820,7 @@ fn main()
 == b/src/lib.rt
 pub fn here() {
 }
-"""), ["use _*_", "use next", "use Table", "use gone", "use drop"])
+"""), ["use ◌*◌", "use next", "use Table", "use gone", "use drop"])
 
     def test_items(self):
         self.assertEqual(self.found("""\
@@ -848,7 +919,7 @@ class House(unittest.TestCase):
     def test_meaning_rests_on_meaning(self):
         self.hold(
             misled_imports,
-            "Let meaning import meaning, declared types, Prim, mathlib and lib alone: move the "
+            "Let meaning import meaning, declared types, std, Prim, mathlib and lib alone: move the "
             "definition that is imported to the kind that it is, or that which imports it:",
         )
 
