@@ -2,22 +2,21 @@
 
     python3 tests/checks/gate.py
 
-It holds the layout of the sources and runs the unit tests, as many modules at a time as there are processors; then
-`rt ci`, once, which proves every crate from nothing and builds target/bin, two crates or edits at a time for every
-processor, or as many as RT_JOBS says, and with its temporary files in memory where there is room, or where TMPDIR says; and then the kept cases, what C and
-Rust hosts link, the benchmarks' opponent, and the comparisons on what that built. All output is shown as it comes, but for the last line of `rt ci`, 'N passed, 0 failed': that is held
-back until everything has passed, and stands last, behind the seconds that each part took. The first command that fails
-ends the run with status 1, and the last line tells which it was. An interrupt ends the command that is under way.
+It runs the unit tests, as many modules at a time as there are processors; then `rt ci`, once, as it stands: that holds the
+layout of the sources, proves every crate, tries every must-fail edit, and builds and runs the programs; an edit that it
+could not try, for which it calls it bad, fails the gate too. Then come the kept cases, what C and Rust hosts link, whose archive `rt lib` makes,
+the benchmarks' opponent, and the comparisons on what that built. All output is shown as it comes, but for the last line of
+`rt ci`, 'N passed, 0 failed': that is held back until everything has passed, and stands last, behind the seconds that each
+part took. The first command that fails ends the run with status 1, and the last line tells which it was. An interrupt ends
+the command that is under way.
 """
 
 import argparse
 import contextlib
-import os
 import pathlib
 import re
 import subprocess
 import sys
-import tempfile
 import time
 from typing import NamedTuple
 
@@ -28,11 +27,8 @@ from tools.commands import INTERRUPTION, stop_as_by_an_interrupt, under_way
 from tools.programs import REPOSITORY
 
 RT_CI = ("rt", "ci")
-# `rt` proves crates, and tries edits, in batches and waits for the slowest of each: two for every processor leave none idle
-RT_JOBS = 2 * (os.cpu_count() or 1)
-MEMORY = pathlib.Path("/dev/shm")
-BYTES_FOR_A_JOB = 2**30
 ALL_PASSED = re.compile(rb"[1-9][0-9]* passed, 0 failed\n")
+BAD_EDITS = re.compile(rb"rt: ok; .*\bmust-fail edits: [^;]*, ([1-9][0-9]*) bad\b")
 FAILURE = 1  # an exit status
 
 
@@ -48,8 +44,8 @@ def comparison(program, count):
 
 
 FIRST = Part(
-    "format and unit tests",
-    (("rt", "fmt", "--check"), ("python3", "tests/checks/units.py")),
+    "unit tests",
+    (("python3", "tests/checks/units.py"),),
 )
 ON_WHAT_WAS_BUILT = (
     Part("cases", (("python3", "tests/checks/cases.py"),)),
@@ -100,35 +96,18 @@ def run_part(part):
             pass
 
 
-def memory_serves():
-    """Whether there is a folder in memory with room for every job, and for programs to be run there."""
-    try:
-        about = os.statvfs(MEMORY)
-    except OSError:
-        return False
-    roomy = about.f_bavail * about.f_frsize >= RT_JOBS * BYTES_FOR_A_JOB
-    return roomy and not about.f_flag & os.ST_NOEXEC and os.access(MEMORY, os.W_OK)
-
-
-@contextlib.contextmanager
-def surroundings():
-    """What `rt` is run in, but for what is set already: so many jobs, and a folder for what it copies for each of them."""
-    with tempfile.TemporaryDirectory(dir=MEMORY if memory_serves() else None) as folder:
-        os.chmod(folder, 0o711)  # rt runs programs as nobody
-        yield {"RT_JOBS": str(RT_JOBS), "TMPDIR": folder, **os.environ}
-
-
 def run_rt_ci():
     """Shows what `rt ci` prints, but for a last line that tells that all has passed; gives that line."""
-    held = b""
-    with surroundings() as environment, started(
-        RT_CI, env=environment, stdout=subprocess.PIPE, stderr=subprocess.STDOUT
-    ) as child:
+    held, bad = b"", None
+    with started(RT_CI, stdout=subprocess.PIPE, stderr=subprocess.STDOUT) as child:
         for line in child.stdout:
             show(held)
             held = line if ALL_PASSED.fullmatch(line) else b""
+            bad = BAD_EDITS.match(line) or bad
             if not held:
                 show(line)
+    if bad:
+        raise Failed(f"{' '.join(RT_CI)}: {int(bad[1])} bad must-fail edits")
     if not held:
         raise Failed(f"{' '.join(RT_CI)}: its last line is not 'N passed, 0 failed'")
     return held

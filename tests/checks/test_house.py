@@ -241,6 +241,14 @@ def static_libraries(root):
     return set(re.findall(r"^(\w+) +staticlib\b", listed, re.MULTILINE))
 
 
+def settled_by(root, one, exported):
+    """The crate and the name of the function whose law says that the promise of one settles the outcome."""
+    called = called_with_parts(root, one)
+    if called in exported:
+        return settled_by(root, exported[called], exported)
+    return called or (one.crate, one.name)
+
+
 def unsettled_functions(root):
     """Functions that other crates can call, and of which no law says that their promise settles the outcome.
 
@@ -248,8 +256,9 @@ def unsettled_functions(root):
     One that is exported by a static library promises what the function does that it hands all on to.
     """
     laws = "\n".join(sources.text_of(root, file) for file in sources.files(root, "outcomes/proofs/*.antt"))
-    for one in exported_functions(root):
-        crate, name = called_with_parts(root, one) or (one.crate, one.name)
+    exported = {(one.crate, one.name): one for one in exported_functions(root)}
+    for one in exported.values():
+        crate, name = settled_by(root, one, exported)
         law = f"{crate}_{name}_settled"
         if not re.search(rf"^pub {re.escape(law)} : Settles\s", laws, re.MULTILINE):
             yield f"{one.crate}::{one.name}: no law {law}"
@@ -558,11 +567,18 @@ pub fn other() -> u32 {
     begin_parts(1)
 }
 == exports/src/lib.rt
-use blocks::Block;
+use blocks::{Block, begin};
 
 #[unsafe(no_mangle)]
 pub extern "C" fn exported_other() -> u32 {
     blocks::other()
+}
+
+#[unsafe(no_mangle)]
+pub extern "C" fn exported_begin(block: &Block) -> u32
+    ensures { result ≡ 1 }
+{
+    begin(block)
 }
 
 #[unsafe(no_mangle)]
