@@ -1,9 +1,10 @@
 """Proving and building a program, where what it is built of has changed since it was built last.
 
 Of each program that was built two sums are kept, target/built/NAME.sum: one of all that it was built of, which is the
-kit's identity, crates.txt and every file of the crates that it stands on, and one of the program itself. Where both
-are as they were there is nothing to do. Else `rt check NAME` proves what has changed and builds the program; one at a
-time, under the lock target/built/lock, since two would write to the same files.
+kit's identity, crates.txt and every file of the crates that it stands on but for what rt makes there, and one of the
+program itself. Where both are as they were there is nothing to do. Else `rt run` in the program's folder proves what has
+changed, builds the program, crates/NAME/out/NAME, and runs it on an empty input; one at a time, under the lock
+target/built/lock, since two would write to the same files.
 """
 
 import contextlib
@@ -12,13 +13,15 @@ import hashlib
 import os
 import re
 import subprocess
+import time
 
 from tools.commands import under_way
 from tools.programs import REPOSITORY, Trouble, find_kit, place_of, write_all
 
 BUILT = REPOSITORY / "target" / "built"
-STAMPS = REPOSITORY / "target" / "stamp"  # rt's own
-PROVED = re.compile(r"rt: (\w+) proved \((?:(\d+) s|unchanged .*)\)\n")
+MADE_BY_RT = "out"  # a crate's folder
+CHECKED = re.compile(r"crate (\w+): modules loaded=\d+ checked=\d+\n")
+PROVED = "logic=proved "  # how rt's last line of a crate begins
 STANDARD_ERROR = 2
 
 
@@ -39,7 +42,7 @@ def direct_dependencies():
     """What each crate of the repository stands on directly, by crates.txt."""
     lines = (line.partition("#")[0] for line in (REPOSITORY / "crates.txt").read_text("utf-8").splitlines())
     named = (line.partition(":") for line in lines if line.strip())
-    return {name.strip(): below.split() for name, _, below in named}
+    return {name.split()[0]: below.split() for name, _, below in named}  # behind a name may stand what kind it is
 
 
 def crates_of(name):
@@ -53,9 +56,11 @@ def crates_of(name):
     return sorted(found)
 
 
-def files_below(folder):
-    """The files of a folder and of those in it, in order; a link is none, as for rt."""
+def files_below(folder, but=()):
+    """The files of a folder and of those in it, but for some of these, in order; a link is none, as for rt."""
     for entry in sorted(os.scandir(folder), key=lambda entry: entry.name):
+        if entry.name in but:
+            continue
         if entry.is_dir(follow_symlinks=False):
             yield from files_below(entry.path)
         elif entry.is_file(follow_symlinks=False):
@@ -66,7 +71,7 @@ def sources_of(name):
     """The files of the repository that a program is built of."""
     yield str(REPOSITORY / "crates.txt")
     for crate in crates_of(name):
-        yield from files_below(str(REPOSITORY / "crates" / crate))
+        yield from files_below(str(REPOSITORY / "crates" / crate), (MADE_BY_RT,))
 
 
 def kit_identity():
@@ -137,25 +142,25 @@ def alone():
 
 
 def told_as_proved(lines, count):
-    """Gives the lines that rt prints, and tells of every crate in them that is proved anew, of so many."""
-    done = 0
+    """Gives the lines that rt prints, and tells of every crate in them that is proved anew, of at most so many."""
+    done, crate, began = 0, None, time.monotonic()
     for line in lines:
-        proved = PROVED.fullmatch(line)
-        if proved:
-            done += 1
-            name, seconds = proved.groups()
-            if seconds:
-                say(f"{done} of {count} proved: {name} {seconds} s")
+        checked = CHECKED.fullmatch(line)
+        crate = checked[1] if checked else crate
+        if crate and line.startswith(PROVED):
+            done, now = done + 1, time.monotonic()
+            say(f"{done} of {count} at most proved: {crate} {now - began:.0f} s")
+            crate, began = None, now
         yield line
 
 
-def prove(name, lock):
-    """Runs `rt check`, which holds the lock as well, so that it stays alone where this process is killed."""
-    crates = len(crates_of(name))
-    say(f"proving and building {name}, {crates} crates; minutes where nothing is proved yet")
+def prove(crate, command, lock):
+    """Runs a command of rt in a crate's folder, which holds the lock as well, so that it stays alone where this process is killed."""
+    crates = len(crates_of(crate))
+    say(f"proving and building {crate}, {crates} crates; minutes where nothing is proved yet")
     rt = subprocess.Popen(
-        ["rt", "check", name],
-        cwd=REPOSITORY,
+        ["rt", command],
+        cwd=REPOSITORY / "crates" / crate,
         stdin=subprocess.DEVNULL,
         stdout=subprocess.PIPE,
         stderr=subprocess.STDOUT,
@@ -172,13 +177,13 @@ def prove(name, lock):
         raise
     if rt.returncode != 0:
         tell("".join(printed))
-        raise Trouble(f"the program {name} is not proved: `rt check {name}` ended with status {rt.returncode}")
+        raise Trouble(f"{crate} is not proved and built: `rt {command}` in crates/{crate} ended with status {rt.returncode}")
 
 
 def forget_altered(name, sources):
     """Has rt build a program again that is gone, or is not what was built of the sources: rt goes by its stamp."""
     if not program_of(name) or kept_sums(name)[:1] == [sources]:
-        (STAMPS / name).unlink(missing_ok=True)
+        place_of(name).with_name(f"{name}.stamp").unlink(missing_ok=True)
 
 
 def build(name, lock):
@@ -186,11 +191,11 @@ def build(name, lock):
     sources, proved = sum_of_sources(name), None
     forget_altered(name, sources)
     while sources != proved:
-        prove(name, lock)
+        prove(name, "run", lock)
         sources, proved = sum_of_sources(name), sources
     program = program_of(name)
     if not program:
-        raise Trouble(f"`rt check {name}` ended well, and there is no target/bin/{name}")
+        raise Trouble(f"`rt run` in crates/{name} ended well, and there is no crates/{name}/out/{name}")
     keep_sums(name, sources, sum_of_program(program))
     return program
 

@@ -164,7 +164,7 @@ class Exporting:
             params.append(("told", f"&mut [u64; {TOLD}]"))
             lines = [f"    let answer = {call};", *self.tell("answer", door.answers, 0)[0]]
         told = ", ".join(f"{name}: {kind}" for name, kind in params)
-        head = f'#[no_mangle]\npub extern "C" fn {symbol_of(door.crate, door.name)}({told}) {{'
+        head = f'#[unsafe(no_mangle)]\npub extern "C" fn {symbol_of(door.crate, door.name)}({told}) {{'
         self.functions.append("\n".join([head, *lines, "}\n"]))
 
 
@@ -180,4 +180,4 @@ def text_of(root, names):
         exporting.export(door_of(root, crate, name))
     uses = "".join(f"use {one};\n" for one in sorted(exporting.used))
     below = {crate for crate, _ in names} | {one.partition("::")[0] for one in exporting.used}
-    return "// Doors, exported to C.\n" + uses + "\n" + "\n".join(exporting.functions), sorted(below)
+    return "// Doors, exported to C.\n#![tactic(auto)]\n\n" + uses + "\n" + "\n".join(exporting.functions), sorted(below)

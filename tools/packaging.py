@@ -19,14 +19,15 @@ import sys
 if __name__ == "__main__":  # as a command, too, packages are found from the repository
     sys.path[0] = str(pathlib.Path(__file__).resolve().parents[1])
 
-from tools.building import alone, keep_sums, kept_sums, sum_of_program, sum_of_sources
+from tools.building import MADE_BY_RT, alone, keep_sums, kept_sums, prove, sum_of_program, sum_of_sources
 from tools.programs import REPOSITORY, Trouble
 from tools.run import version
 
 HOSTS = REPOSITORY / "hosts"
 MADE = REPOSITORY / "target" / "hosts"
-LIBRARY = "peashuttle"
-ARCHIVE = REPOSITORY / "target" / "staticlib" / f"lib{LIBRARY}.a"
+CRATE = "peashuttle_c"  # the library as a static one
+MADE_ARCHIVE = REPOSITORY / "crates" / CRATE / MADE_BY_RT / f"lib{CRATE}.a"
+ARCHIVE = REPOSITORY / "target" / "staticlib" / "libpeashuttle.a"
 CONTENTS = {  # of the folder, by where each file of the repository goes
     "README.md": HOSTS / "README.md",
     "include/peashuttle.h": HOSTS / "c" / "peashuttle.h",
@@ -45,31 +46,24 @@ FAILURE = 1  # an exit status
 
 def sums():
     """Of the library's sources, and of the archive as it stands."""
-    return [sum_of_sources(LIBRARY), sum_of_program(ARCHIVE.read_bytes() if ARCHIVE.is_file() else b"")]
+    return [sum_of_sources(CRATE), sum_of_program(ARCHIVE.read_bytes() if ARCHIVE.is_file() else b"")]
 
 
-def prove_archive():
-    """Proves the library, and writes its archive."""
-    ended = subprocess.run(
-        ["rt", "staticlib", LIBRARY],
-        cwd=REPOSITORY,
-        stdin=subprocess.DEVNULL,
-        stdout=subprocess.PIPE,
-        stderr=subprocess.STDOUT,
-        encoding="utf-8",
-        errors="replace",
-        check=False,
-    )
-    if ended.returncode != 0 or not ARCHIVE.is_file():
-        raise Trouble(f"{ended.stdout}`rt staticlib {LIBRARY}` ended with status {ended.returncode}")
+def prove_archive(lock):
+    """Proves the library, and writes its archive, under the name that hosts link it by."""
+    prove(CRATE, "lib", lock)
+    if not MADE_ARCHIVE.is_file():
+        raise Trouble(f"`rt lib` in crates/{CRATE} ended well, and there is no {MADE_ARCHIVE.relative_to(REPOSITORY)}")
+    ARCHIVE.parent.mkdir(parents=True, exist_ok=True)
+    shutil.copyfile(MADE_ARCHIVE, ARCHIVE)
 
 
 def build_archive():
     """The archive, proved and written anew where its sources or itself have changed since; one build at a time."""
-    with alone():
+    with alone() as lock:
         sources = sums()[0]
         if kept_sums(ARCHIVE.name) != sums():
-            prove_archive()
+            prove_archive(lock)
             keep_sums(ARCHIVE.name, sources, sums()[1])
 
 

@@ -40,24 +40,18 @@ def find_kit():
     rt = shutil.which("rt")
     if rt is None:
         raise Trouble("needs the Rattle kit's rt, and there is none on the PATH")
-    return pathlib.Path(os.environ.get("RATTLE_HOME") or pathlib.Path(rt).resolve().parent.parent)
+    return pathlib.Path(rt).resolve().parent.parent
 
 
 def prepare(program, room):
-    """Puts a program, its bytes, into the room, outside the repository, and says how to start it there.
-
-    Programs are for x86-64: on another processor the kit has an emulator. Root runs them as nobody.
-    """
+    """Puts a program, its bytes, into the room, outside the repository, and says how to start it there: root as nobody."""
     own, data = room / "own", room / "data"
     own.mkdir()
     data.mkdir()
     copy = own / "program"
     copy.write_bytes(program)
     copy.chmod(0o755)
-    tools = find_kit() / "on" / os.uname().machine / "toolchain"
-    emulator = tools / "bin" / "qemu-x86_64"
-    command = [str(emulator)] if os.access(emulator, os.X_OK) else []
-    command += [str(tools / "lib" / "ld-linux-x86-64.so.2"), "--library-path", str(tools / "lib"), str(copy)]
+    command = [str(copy)]
     if os.getuid() == 0:
         drop = ["setpriv", f"--reuid={NOBODY}", f"--regid={NOBODY}", "--clear-groups", "--no-new-privs"]
         command = drop + command
@@ -76,15 +70,15 @@ def in_a_room(program):
 
 def place_of(name):
     """Where rt puts a program."""
-    return REPOSITORY / "target" / "bin" / name
+    return REPOSITORY / "crates" / name / "out" / name
 
 
 @contextlib.contextmanager
 def prepared(name):
-    """How to start target/bin/NAME, as long as the block lasts; ends with status 2 where it or rt is missing."""
+    """How to start a program that is built, as long as the block lasts; ends with status 2 where it is missing."""
     try:
         if not place_of(name).is_file():
-            raise Trouble(f"there is no target/bin/{name}; `rt check {name}` makes it")
+            raise Trouble(f"there is no crates/{name}/out/{name}; `rt run` in crates/{name} makes it")
         with in_a_room(place_of(name).read_bytes()) as started:
             yield started
     except Trouble as trouble:
@@ -100,13 +94,11 @@ Answer = namedtuple("Answer", "output trouble")  # what a program printed, and h
 
 def answer_from(started, seconds=SECONDS_FOR_ONE_INPUT, **source):
     """The answer to what `source`, an argument of subprocess.run, has for standard input."""
-    environment = {name: value for name, value in os.environ.items() if not name.startswith("QEMU_")}
     try:
         ended = subprocess.run(
             started.command,
             capture_output=True,
             cwd=started.folder,
-            env=environment,
             timeout=seconds,
             check=False,
             **source,

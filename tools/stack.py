@@ -4,7 +4,7 @@
 
 makes an archive that exports every door which docs/DOORS.md names, outside the repository, and prints a line `BYTES DOOR`
 for each: the most that is in use below the door's caller, its return address included, whatever the door is lent. With
-the names of programs, as `track`, it tells of these instead, as they are built under target/bin. Code is for x86-64; what
+the names of programs, as `track`, it tells of these instead, as rt has built them. Code is for x86-64; what
 the C library's memcpy, memset and memmove take for themselves is not counted. It needs rt and, to read the code, an
 objdump that knows x86-64: that of binutils for such a machine, or llvm-objdump.
 
@@ -24,6 +24,7 @@ if __name__ == "__main__":  # as a command, too, packages are found from the rep
     sys.path[0] = str(pathlib.Path(__file__).resolve().parents[1])
 
 from tools import exported, sources
+from tools.building import MADE_BY_RT
 from tools.programs import REPOSITORY, place_of
 
 CRATE = "exported_doors"
@@ -249,19 +250,18 @@ def functions_in(file):
 
 def archive_of(doors, folder):
     """Proves and builds the archive that exports the doors, in a folder."""
-    for part in ("crates", "target/rlib", "target/stamp", "target/log"):
-        if (REPOSITORY / part).is_dir():
-            shutil.copytree(REPOSITORY / part, folder / part)
+    shutil.copytree(REPOSITORY / "crates", folder / "crates", ignore=shutil.ignore_patterns(MADE_BY_RT))
     text, below = exported.text_of(REPOSITORY, doors)
     source = folder / "crates" / CRATE / "src" / "lib.rt"
     source.parent.mkdir(parents=True)
     source.write_text(text, "utf-8")
     listed = (REPOSITORY / "crates.txt").read_text("utf-8")
-    (folder / "crates.txt").write_text(f"{listed}\n{CRATE}: {' '.join(below)}\n", "utf-8")
-    ended = subprocess.run(["rt", "staticlib", CRATE], cwd=folder, stdout=sys.stderr, check=False)
+    (folder / "crates.txt").write_text(f"{listed}\n{CRATE} staticlib: {' '.join(below)}\n", "utf-8")
+    crate = folder / "crates" / CRATE
+    ended = subprocess.run(["rt", "lib"], cwd=crate, stdout=sys.stderr, check=False)
     if ended.returncode != 0:
-        raise Unknown(f"rt staticlib {CRATE}: status {ended.returncode}")
-    return folder / "target" / "staticlib" / f"lib{CRATE}.a"
+        raise Unknown(f"rt lib in crates/{CRATE}: status {ended.returncode}")
+    return crate / MADE_BY_RT / f"lib{CRATE}.a"
 
 
 def stack_of_doors():
@@ -278,7 +278,7 @@ def stack_of_programs(names):
     """Pairs of a program and the bytes that it takes."""
     for name in names:
         if not place_of(name).is_file():
-            raise Unknown(f"there is no target/bin/{name}; `rt check {name}` makes it")
+            raise Unknown(f"there is no crates/{name}/out/{name}; `rt run` in crates/{name} makes it")
         yield name, WORD + deepest("main", functions_in(place_of(name)), counts_of(REPOSITORY))
 
 

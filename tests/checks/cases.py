@@ -1,7 +1,7 @@
 """The cases of document 01, A to M, and of document 02's W1 and W2, the edges around them, and the runs of the report's
 figures, kept as cases/NAME.in and NAME.out.
 
-    python3 tests/checks/cases.py          runs target/bin/track on every input, handed over whole and in pieces
+    python3 tests/checks/cases.py          runs the program track on every input, handed over whole and in pieces
     python3 tests/checks/cases.py --make   writes every file again, the outputs by the independent program
 
 The first difference from a kept output ends the run with status 1.
@@ -195,7 +195,7 @@ def run():
 
 
 def main():
-    arguments = argparse.ArgumentParser(description="hold target/bin/track against the kept cases")
+    arguments = argparse.ArgumentParser(description="hold the program track against the kept cases")
     arguments.add_argument("--make", action="store_true", help="write the kept cases again")
     return make() if arguments.parse_args().make else run()
 

@@ -2,7 +2,7 @@
 
     python3 tests/checks/differential.py [--count N] [--seed S] [--first I] [--program NAME]
 
-It runs target/bin/NAME once for every input, as the kit's rt runs it, and holds what the program prints
+It runs the program NAME, as rt has built it, once for every input, and holds what it prints
 against the independent program's listing: of the generators, judge has the inputs of tables.py, play those of
 runs.py, reread those of tracks.py and track those of inputs.py. The first difference ends the run with status 1;
 what is printed then says how to see it again. Without any, one line tells the inputs, the outcomes and the
@@ -170,7 +170,7 @@ def main():
     arguments.add_argument("--count", type=int, default=2_500, help="how many inputs (2500)")
     arguments.add_argument("--seed", type=int, default=DEFAULT_SEED, help="the seed of all inputs")
     arguments.add_argument("--first", type=int, default=0, help="the first input's index (0)")
-    arguments.add_argument("--program", default="track", choices=SUBJECTS, help="which of target/bin (track)")
+    arguments.add_argument("--program", default="track", choices=SUBJECTS, help="which program (track)")
     chosen = arguments.parse_args()
     return run(chosen.program, chosen.seed, chosen.first, chosen.count)
 

@@ -23,12 +23,12 @@ PROGRAM = f"#!/bin/sh\n{{begun}}\nexec head -c {ROOM}\n"
 OTHER_PROGRAM = "#!/bin/sh\necho 4101\n"
 RT = """\
 #!/bin/sh
-echo "$@" >> "{kit}/calls"
-mkdir -p target/bin target/stamp
+name=$(basename "$PWD")
+echo "$@ $name" >> "{kit}/calls"
+mkdir -p out
 . "{kit}/script"
-cp "{kit}/program" "target/bin/$2"
+cp "{kit}/program" "out/$name"
 """
-LOADER = '#!/bin/sh\nshift 2\nexec "$@"\n'
 CRATES = "# programs\nlow:\nmiddle: low\nbeside:\ntrack: middle low io\nplay: low\njudge: low\nreread: low\n"
 LISTING = b"4000\n4100\n3001000000000000\n3f\n"
 REFUSED_STEP = b"4000\n4102\n4e070002\n3001000000000000\n3f\n"
@@ -53,7 +53,6 @@ class House:
         self.put("kit/calls", "")
         self.put("kit/program", PROGRAM.format(begun=self.begun))
         self.put("kit/bin/rt", RT.format(kit=self.kit), 0o755)
-        self.put(f"kit/on/{os.uname().machine}/toolchain/lib/ld-linux-x86-64.so.2", LOADER, 0o755)
         self.let_rt(":")
         for name, mode in (("bin", 0o755), ("signs", 0o777)):
             (self.folder / name).mkdir()
@@ -149,6 +148,7 @@ class Building(OwnHouse):
     def test_nothing_has_changed(self):
         self.assert_builds(1, "nothing is built")
         self.at.put("house/crates/beside/src/lib.rt", "not stood on")
+        self.at.put("house/crates/low/out/rlib/stamp", "made by rt")
         (self.at.house / "crates/low/src/lib.rt").touch()
         (self.at.house / "crates/low/src/link.rt").symlink_to("nowhere")
         self.assert_builds(0, "changes that the program is not built of")
@@ -164,7 +164,7 @@ class Building(OwnHouse):
             ("house/crates.txt", CRATES.replace("middle: low", "middle: beside") + "# more\n"),
             ("house/crates/beside/src/lib.rt", "stood on now"),
             ("kit/KIT-ID", "kit two\n"),
-            ("house/target/bin/track", OTHER_PROGRAM),
+            ("house/crates/track/out/track", OTHER_PROGRAM),
             ("house/target/built/track.sum", "\u00fc"),
         ):
             self.at.put(name, text)
@@ -174,14 +174,14 @@ class Building(OwnHouse):
         self.assert_builds(0, "the same again")
 
     def test_a_program_that_is_gone_or_altered_though_rt_has_its_stamp(self):
-        self.at.let_rt("[ ! -e target/stamp/$2 ] || exit 0; touch target/stamp/$2")
-        self.at.put("house/target/stamp/track", "")
+        self.at.let_rt("[ ! -e out/$name.stamp ] || exit 0; touch out/$name.stamp")
+        self.at.put("house/crates/track/out/track.stamp", "")
         self.assert_builds(1, "gone")
-        self.at.put("house/target/bin/track", OTHER_PROGRAM)
+        self.at.put("house/crates/track/out/track", OTHER_PROGRAM)
         self.assert_builds(1, "altered")
 
     def test_what_changes_meanwhile_is_proved_too(self):
-        self.at.let_rt("[ -e {kit}/once ] || echo more >> crates/low/src/lib.rt; touch {kit}/once")
+        self.at.let_rt("[ -e {kit}/once ] || echo more >> ../low/src/lib.rt; touch {kit}/once")
         self.assert_builds(2, "changed while it was proved")
         self.assert_builds(0, "the same again")
 
@@ -189,7 +189,7 @@ class Building(OwnHouse):
         for option, program in PROGRAMS.items():
             if option != "--words":
                 self.assertEqual(self.at.outcome(*filter(None, [option]))[::2], (LISTING, 0))
-                self.assertEqual(self.at.calls()[-1], f"check {program}")
+                self.assertEqual(self.at.calls()[-1], f"run {program}")
 
     def test_what_is_told_goes_to_no_file(self):
         self.assertEqual(self.at.outcome_in_shell("2>&-")[::2], (LISTING, 0))
@@ -240,9 +240,12 @@ class Words(OwnHouse):
 
 class Proving(OwnHouse):
     def test_crate_by_crate(self):
-        first, second = "rt: low proved (17 s)", "rt: middle proved (unchanged since it was last proved)"
+        proved = "echo crate {name}: modules loaded=0 checked=40; echo logic=proved functions=1"
         go = "until [ -e {kit}/go ]; do sleep 0.01; done"
-        self.at.let_rt(f"echo '{first}'; {go}; echo '{second}'; echo logic=proved; echo 'rt: track proved (0 s)'")
+        self.at.let_rt("; ".join([
+            "echo library beside: modules loaded=0 checked=0; echo logic=proved functions=9",
+            proved.replace("{name}", "low"), go, "echo fn track::main: proved", proved.replace("{name}", "track"),
+        ]))
         with self.at.start() as run:
             run.stdin.close()
             lines = [run.stderr.readline() for _ in range(2)]
@@ -250,25 +253,26 @@ class Proving(OwnHouse):
             lines += run.stderr.readlines()
         self.assertTrue(lines[0].startswith(b"run: proving and building track, 3 crates"), lines)
         self.assertEqual(lines[1:], [
-            b"run: 1 of 3 proved: low 17 s\n",
-            b"run: 3 of 3 proved: track 0 s\n",
+            b"run: 1 of 3 at most proved: low 0 s\n",
+            b"run: 2 of 3 at most proved: track 0 s\n",
         ])
 
     def test_not_proved(self):
-        self.at.let_rt("echo 'rt: low NOT PROVED (exit 1, 3 s)'; echo 'λ n. ..' >&2; exit 1")
+        self.at.let_rt("echo 'logic=not-proved functions=3'; echo 'λ n. ..' >&2; exit 1")
         for _ in range(2):
             printed, told, status = self.at.outcome()
             self.assertEqual((printed, status), (b"", 3))
             self.assertEqual(told.splitlines()[1:], [
-                "rt: low NOT PROVED (exit 1, 3 s)",
+                "logic=not-proved functions=3",
                 "λ n. ..",
-                "run: the program track is not proved: `rt check track` ended with status 1",
+                "run: track is not proved and built: `rt run` in crates/track ended with status 1",
             ])
 
     def test_proved_and_not_built(self):
         self.at.let_rt("exit 0")
         _, told, status = self.at.outcome()
-        self.assertEqual(told.splitlines()[1:], ["run: `rt check track` ended well, and there is no target/bin/track"])
+        told_last = "run: `rt run` in crates/track ended well, and there is no crates/track/out/track"
+        self.assertEqual(told.splitlines()[1:], [told_last])
         self.assertEqual(status, 3)
 
     def test_a_program_that_ends_badly(self):
