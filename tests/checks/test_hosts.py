@@ -24,10 +24,10 @@ FROM_SOURCES = {  # what the header and the crate call a constant, and what the 
 LENGTHS = {"HEAD_WORDS": "Head", "COUNTER_WORDS": "Counters"}  # of arrays that the sources give by a number
 OWN = {"ALIGNMENT", "STACK", "NO_BLOCK", "H"}  # of the header and the crate alone
 ANSWERS = {  # what the header calls a number, and the definition's equation for it
-    "TAU": "of-event τ = 0", "TICK": "of-event ✓ = 1", "EVENT": "of-event (visible e) = 2 + e",
-    "LIVE": "of-status live = 0", "ENDED": "of-status ended = 1", "STUCK": "of-status stuck = 2",
-    "OFFERS_TAU": "of-offers true false = 1", "OFFERS_TICK": "of-offers false true = 2",
-    "REFUSED": "of-refusal n = 0x10000 + n",
+    "TAU": "of_event τ = 0", "TICK": "of_event ✓ = 1", "EVENT": "of_event (visible e) = 2 + e",
+    "LIVE": "of_status live = 0", "ENDED": "of_status ended = 1", "STUCK": "of_status stuck = 2",
+    "OFFERS_TAU": "of_offers true false = 1", "OFFERS_TICK": "of_offers false true = 2",
+    "REFUSED": "of_refusal n = 0x10000 + n",
 }
 DEFINED = ("DONE", "END", "NO_TABLE", "NO_RUN", "NO_TRACK", "TABLE_STAMP", "RUN_STAMP", "TRACK_STAMP")
 IN_C = {"u8": "uint8_t", "u16": "uint16_t", "u32": "uint32_t", "u64": "uint64_t", "usize": "size_t", None: "void"}
@@ -65,7 +65,7 @@ def in_sources(name):
 
 def in_definitions(name):
     """The value of a definition that is a number, under the name that definitions have for a constant."""
-    line = re.compile(rf"^{name.lower().replace('_', '-')} = (0x[0-9a-f]+|\d+)$", re.MULTILINE)
+    line = re.compile(rf"^{name.lower()} = (0x[0-9a-f]+|\d+)$", re.MULTILINE)
     (value,) = {int(value, 0) for text in texts_of("*/specs/**/*.antt") for value in line.findall(text)}
     return value
 
@@ -191,8 +191,8 @@ def fields_in_rust():
 
 def fields_in_sources():
     found = {}
-    struct = re.compile(r"^#\[repr\(C\)\]\npub struct (\w+)Block \{\n(.*?)^\}", re.MULTILINE | re.DOTALL)
-    for block, body in struct.findall("\n".join(texts_of("peashuttle/src/**/*.rt"))):
+    struct = re.compile(r"^#\[repr\(C\)\]\n(?:#[^\n]*\n)*pub struct (\w+)Block \{\n(.*?)^\}", re.MULTILINE | re.DOTALL)
+    for block, body in struct.findall("\n".join(texts_of("peashuttle*/src/**/*.rt"))):
         fields = re.findall(r"^    pub (\w+): (\w+),", body, re.MULTILINE)
         kinds = [(name, *arrays().get(kind, (kind, None))) for name, kind in fields]
         found[block.lower()] = [(name, IN_C[of], count) for name, of, count in kinds]

@@ -838,6 +838,42 @@ pub fn here() {
 }
 """), ["use ◌*◌", "use next", "use Table", "use gone", "use drop"])
 
+    def test_imports_of_several_at_once(self):
+        self.assertEqual(self.found("""\
+== a/src/main.rt
+use b::inner::{self, deep as told};
+use b::{
+    gone, here,
+    inner::{deep, low::lowest as last},
+};
+
+fn main() {
+    here();
+    last();
+    told();
+    inner::deep();
+}
+== b/src/lib.rt
+pub mod inner;
+
+pub fn here() {
+}
+
+pub fn gone() {
+}
+== b/src/inner.rt
+pub mod low;
+
+pub fn deep() {
+}
+== b/src/low.rt
+pub fn other() {
+}
+== b/src/inner/low.rt
+pub fn lowest() {
+}
+"""), ["function gone", "function other", "use gone", "use deep"])
+
     def test_items(self):
         self.assertEqual(self.found("""\
 == a/src/lib.rt

@@ -242,7 +242,7 @@ pub enum Found {
 }
 
 pub fn look(found: Found, room: &mut Room) -> Both
-    ensures { λ r. ⌜ r ≡ spec.look found ⌝ }
+    ensures { result ≡ spec.look found }
 {
     look_here(found)
 }
@@ -251,6 +251,8 @@ pub fn look(found: Found, room: &mut Room) -> Both
         self.assertEqual(below, ["a"])
         self.assertEqual(text, """\
 // Doors, exported to C.
+#![tactic(auto)]
+
 use a::Both;
 use a::Found;
 use a::Room;
@@ -265,7 +267,7 @@ fn found_as_found(found: u8, found_0_place: usize, found_0_good: bool, found_1_o
     Found::Nothing
 }
 
-#[no_mangle]
+#[unsafe(no_mangle)]
 pub extern "C" fn a__look(found: u8, found_0_place: usize, found_0_good: bool, found_1_of0: u64, room: &mut Room, told: &mut [u64; 16]) {
     let answer = a::look(found_as_found(found, found_0_place, found_0_good, found_1_of0), room);
     let answer_first = answer.first;
