@@ -115,22 +115,18 @@ def crates_in_modules(modules):
 
 
 def crates_in_paths(rattle):
-    """What the paths of a Rattle file begin with, but for its own modules."""
-    paths = {use.path for use in rattle.uses} | rattle.cited_elsewhere
-    paths = paths.union(*(item.cited for item in rattle.items.values()))
+    """What the paths of a Rattle file begin with, but for its own modules and what `use` lines bring in."""
+    brought = {use.local for use in rattle.uses}
+    cited = rattle.cited_elsewhere.union(*(item.cited for item in rattle.items.values()))
+    paths = {use.path for use in rattle.uses} | {path for path in cited if path[0] not in brought}
     return {path[0] for path in paths if len(path) > 1} - set(rattle.modules)
-
-
-def with_it(crate, used):
-    """What a crate names with what it uses: the C library below `io`, and what declares a type that it only hands about."""
-    return ({"libc"} if "io" in used else set()) | HANDED_ABOUT.get(crate, set())
 
 
 def misnamed_dependencies(root):
     """What crates.txt names of a crate that it does not use, and what it uses and crates.txt does not name."""
     for _, crate, named in listed_crates(root):
         used = used_crates(root, crate)
-        unused_names = named - set(used) - with_it(crate, used)
+        unused_names = named - set(used) - HANDED_ABOUT.get(crate, set())
         if unused_names:
             yield f"{crate} names {' '.join(sorted(unused_names))}, and uses none of it directly"
         for name in sorted(set(used) - named):
@@ -444,6 +440,11 @@ use Rattle.tables.proofs.check.Goals as goal
 
     def test_direct_dependencies(self):
         self.assertEqual(self.faults(misnamed_dependencies, "lines:", "sets:", "tables: io lines"), [])
+
+    def test_what_std_has_under_the_name_of_a_library(self):
+        code = "use std::io;\n\nfn main() -> io::Result<()> {\n    io::write();\n}\n"
+        root = self.tree(f"== a/src/main.rt\n{code}== /crates.txt\na:\n")
+        self.assertEqual(list(misnamed_dependencies(root)), [])
 
     def test_too_many_and_too_few(self):
         self.assertEqual(self.faults(misnamed_dependencies, "lines: sets", "sets:", "tables: lines"), [
