@@ -15,17 +15,59 @@ returns-then-n-eq0 t c =
     c.if-n-eq0.true c.weigh_term-found.ensures c.entering.ensures
 
 pub returns-then-state-eq-UNTOUCHED : goal.returns-then-state-eq-UNTOUCHED
-returns-then-state-eq-UNTOUCHED t c = at_rest (standing c) c.if-state-eq-UNTOUCHED.true c.weigh_term.ensures
+returns-then-state-eq-UNTOUCHED t c = at_rest (record {
+  more = one_more _ c.if-left-eq0.false;
+  there = c.if-n-eq0.false;
+  state_is = c.word-state.ensures;
+  term_is = c.word-term.ensures;
+  frame_is = c.word-frame.ensures;
+}) c.if-state-eq-UNTOUCHED.true c.weigh_term.ensures
 
 pub returns-then-state-ne-ENTERED : goal.returns-then-state-ne-ENTERED
-returns-then-state-ne-ENTERED t c = at_an_end (standing c) c.if-state-eq-UNTOUCHED.false c.if-state-ne-ENTERED.true
+returns-then-state-ne-ENTERED t c = at_an_end (record {
+  more = one_more _ c.if-left-eq0.false;
+  there = c.if-n-eq0.false;
+  state_is = c.word-state.ensures;
+  term_is = c.word-term.ensures;
+  frame_is = c.word-frame.ensures;
+}) c.if-state-eq-UNTOUCHED.false c.if-state-ne-ENTERED.true
 
 pub returns-then-digit-eq4 : goal.returns-then-digit-eq4
-returns-then-digit-eq4 t c = at_the_end (opened c) c.if-digit-eq4.true c.weigh_end.ensures
+returns-then-digit-eq4 t c = at_the_end (record {
+  s = c.word-state.result;
+  standing = record {
+    more = one_more _ c.if-left-eq0.false;
+    there = c.if-n-eq0.false;
+    state_is = c.word-state.ensures;
+    term_is = c.word-term.ensures;
+    frame_is = c.word-frame.ensures;
+  };
+  enters = c.if-state-ne-ENTERED.false;
+  kind_is = c.kind_of-kind.ensures;
+  digit_is = c.digit_at-digit.ensures;
+  o = c.around_of.result;
+  around_is = c.around_of.ensures;
+  within_is = c.is_within-within.ensures;
+}) c.if-digit-eq4.true c.weigh_end.ensures
 
 pub returns-then-not-is_side : goal.returns-then-not-is_side
 returns-then-not-is_side t c =
-    at_astray (opened c) c.if-digit-eq4.false
+    at_astray (record {
+      s = c.word-state.result;
+      standing = record {
+        more = one_more _ c.if-left-eq0.false;
+        there = c.if-n-eq0.false;
+        state_is = c.word-state.ensures;
+        term_is = c.word-term.ensures;
+        frame_is = c.word-frame.ensures;
+      };
+      enters = c.if-state-ne-ENTERED.false;
+      kind_is = c.kind_of-kind.ensures;
+      digit_is = c.digit_at-digit.ensures;
+      o = c.around_of.result;
+      around_is = c.around_of.ensures;
+      within_is = c.is_within-within.ensures;
+    }) c.if-digit-eq4.false
     c.is_side.ensures c.if-not-is_side.true
 
 pub overflow_sub-less : goal.overflow_sub-less
@@ -49,20 +91,78 @@ overflow_add-side-2 t c = omega (arith, side_few _ _ c.taken-side.ensures)
 pub word-reference-requires : goal.word-reference-requires
 word-reference-requires t c = omega (arith, side_few _ _ c.taken-side.ensures)
 
-pub weigh_at-found-requires : goal.weigh_at-found-requires
-weigh_at-found-requires t c = (fewer c, tt)
-
 pub returns-then-digit-ne3 : goal.returns-then-digit-ne3
 returns-then-digit-ne3 t c =
-    at_one (opened c) c.if-digit-eq4.false c.is_side.ensures
-    c.if-not-is_side.false (crossed c) c.if-digit-ne3.true c.one.ensures
-
-pub weigh_at-across-requires : goal.weigh_at-across-requires
-weigh_at-across-requires t c = (fewer c, tt)
+    at_one (record {
+      s = c.word-state.result;
+      standing = record {
+        more = one_more _ c.if-left-eq0.false;
+        there = c.if-n-eq0.false;
+        state_is = c.word-state.ensures;
+        term_is = c.word-term.ensures;
+        frame_is = c.word-frame.ensures;
+      };
+      enters = c.if-state-ne-ENTERED.false;
+      kind_is = c.kind_of-kind.ensures;
+      digit_is = c.digit_at-digit.ensures;
+      o = c.around_of.result;
+      around_is = c.around_of.ensures;
+      within_is = c.is_within-within.ensures;
+    }) c.if-digit-eq4.false c.is_side.ensures
+    c.if-not-is_side.false (record {
+      second_is = c.second_of-second.ensures;
+      next = c.sum-next.result;
+      next_is = c.sum-next.ensures;
+      set_is = c.payload_of-set.ensures;
+      inside_is = c.inside_of-inside.ensures;
+      side = c.taken-side.result;
+      side_is = c.taken-side.ensures;
+      own_is = c.word-own.ensures;
+      other_is = c.word-other.ensures;
+      gone = c.word-reference.result;
+      gone_is = c.word-reference.ensures;
+      first = c.sum.result;
+      first_is = c.sum.ensures;
+      below = c.taken-subterm.result;
+      below_is = c.taken-subterm.ensures;
+      found_is = c.weigh_at-found.ensures;
+    }) c.if-digit-ne3.true c.one.ensures
 
 pub returns : goal.returns
 returns t c =
-    at_both (opened c) c.if-digit-eq4.false c.is_side.ensures
-    c.if-not-is_side.false (crossed c) c.if-digit-ne3.false
+    at_both (record {
+      s = c.word-state.result;
+      standing = record {
+        more = one_more _ c.if-left-eq0.false;
+        there = c.if-n-eq0.false;
+        state_is = c.word-state.ensures;
+        term_is = c.word-term.ensures;
+        frame_is = c.word-frame.ensures;
+      };
+      enters = c.if-state-ne-ENTERED.false;
+      kind_is = c.kind_of-kind.ensures;
+      digit_is = c.digit_at-digit.ensures;
+      o = c.around_of.result;
+      around_is = c.around_of.ensures;
+      within_is = c.is_within-within.ensures;
+    }) c.if-digit-eq4.false c.is_side.ensures
+    c.if-not-is_side.false (record {
+      second_is = c.second_of-second.ensures;
+      next = c.sum-next.result;
+      next_is = c.sum-next.ensures;
+      set_is = c.payload_of-set.ensures;
+      inside_is = c.inside_of-inside.ensures;
+      side = c.taken-side.result;
+      side_is = c.taken-side.ensures;
+      own_is = c.word-own.ensures;
+      other_is = c.word-other.ensures;
+      gone = c.word-reference.result;
+      gone_is = c.word-reference.ensures;
+      first = c.sum.result;
+      first_is = c.sum.ensures;
+      below = c.taken-subterm.result;
+      below_is = c.taken-subterm.ensures;
+      found_is = c.weigh_at-found.ensures;
+    }) c.if-digit-ne3.false
     c.end_of-from.ensures c.word-right.ensures
     c.weigh_at-across.ensures c.both.ensures
