@@ -3,6 +3,7 @@
 use mathlib.Core.Logic.{inl, inr, ⊎_elim}
 use Rattle.pairing.proofs.Renumbering.{no_first, no_second, both_turned, both_straight}
 use Rattle.pairing.proofs.keep.Goals as goal
+use Rattle.pairing.proofs.keep.Goals.{then-either+else-high-low, else-either}
 
 pub returns-then-first-eq0 : goal.returns-then-first-eq0
 returns-then-first-eq0 c =
@@ -22,6 +23,9 @@ returns-then-high-low c =
 
 pub returns : goal.returns
 returns c =
-    let straight = ⊎_elim (λ w. inr w.1.left) (λ w. inl w.left) c.if-either.branch in
-    let told = both_straight _ _ _ _ _ _ c.if-first-eq0.false c.if-second-eq0.false straight in
+    let told = both_straight _ _ _ _ _ _ c.if-first-eq0.false c.if-second-eq0.false
+    (elim c.if-either.branch [
+      then-either+else-high-low w ↦ inr w.if-high-low.false
+    | else-either w ↦ inl w.if-either.false
+    ]) in
     record { value = told.0; to_after = told.1 }

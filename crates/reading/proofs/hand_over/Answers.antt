@@ -5,15 +5,15 @@ use Rattle.reading.proofs.Promises.{handed_new, handed_old}
 use Rattle.reading.proofs.hand_over.Goals as goal
 
 pub returns : goal.returns
-returns c =
-    let told = ⊎_elim
-    (λ w. (
-      w.4 ∙ sym (handed_new _ _ w.1.given.1),
-      (w.5 ∙ sym (handed_new _ _ w.1.given.1), (refl, refl)),
-    ))
-    (λ w. (
-      w.2 ∙ sym (handed_old _ _ w.1.given.1),
-      (w.3 ∙ sym (handed_old _ _ w.1.given.1), (refl, refl)),
-    ))
-    c.match-judged.branch in
-    record { labels_after = told.0; graph_after = told.1.0; marks_after = told.1.1.0; track_after = told.1.1.1 }
+returns c = record {
+  labels_after = elim c.match-judged.branch [
+    in-Accepted w ↦ w.labels-is ∙ sym (handed_new _ _ w.in-Accepted.is)
+  | in_default w ↦ w.labels-is ∙ sym (handed_old _ _ w.in_default.is)
+  ];
+  graph_after = elim c.match-judged.branch [
+    in-Accepted w ↦ w.graph-is ∙ sym (handed_new _ _ w.in-Accepted.is)
+  | in_default w ↦ w.graph-is ∙ sym (handed_old _ _ w.in_default.is)
+  ];
+  marks_after = refl;
+  track_after = refl;
+}

@@ -38,5 +38,5 @@ returns c =
     let found = c.empty.ensures.some_event c.if-empty.false in
     let told = promised _ _ _ _ _
     (status_event _ _ _ _ c.offers-offered.result c.offers-offered.ensures.result_value going c.if-offered.false c.if-offered-2.false
-    (search (rules, c.offers-offered.type-inv)) found.0 found.1) in
+    (search (rules, c.offers-offered.type_inv)) found.0 found.1) in
     record { value = told.0; tells_status = told.1 }
