@@ -2,7 +2,7 @@
 -- event. A mark is 0 where there is no node, 1 at the left-hand side of definition 00, and else that of the literal at its
 -- place, whose number the layout and the columns have there. Assumes nothing.
 use Prim.Native.Nat.{ℕ, zero, suc, ◌+◌, ◌*◌, ◌≤◌, ◌<◌}
-use mathlib.Core.Path.{◌≡◌, refl, sym, ap, ap₂, ◌∙◌}
+use mathlib.Core.Path.{subst, ◌≡◌, refl, sym, ap, ap₂, ◌∙◌}
 use mathlib.Core.Bool.{Bool, true, false, ◌&&◌}
 use mathlib.Core.List.{List}
 use mathlib.Core.Logic.{⊎_elim}
@@ -233,8 +233,10 @@ module _ (text : List ℕ) (s : Sofar) (q : judged text ≡ accepted s) where
   told_from (each_first {x = l} {xs = ls} h hs) k (suc n) o p =
       let (is, later) = both (eqb l.reference k) (in_order (suc k) ls) o in
       let m : k + suc n ≡ suc k + n = omega arith in
-      let away = ne_eqb (suc k + n) l.reference (λ e. omega (arith, eqb-true l.reference k is)) in
-      rw (m, away) (told_from hs (suc k) n later (both (placed ts l) (every (placed ts) ls) p).1)
+      let away = ne_eqb (k + suc n) l.reference (λ e. omega (arith, eqb-true l.reference k is)) in
+      let rest = told_from hs (suc k) n later (both (placed ts l) (every (placed ts) ls) p).1 in
+      let marks : List ℕ = marks_of (kinds s) (afters s) (roots s) (suc k) ls in
+      rw away (subst (λ (i : ℕ). Told s (lookup i ls) (get_or marks n 0)) (sym m) rest)
 
   -- a graph of no more labels than references, which have their numbers and places that are theirs
   module _ (g : Graph) (below : DefinitionsBelow (length ts) g.labels) (few : length g.labels ≤ reference_room)

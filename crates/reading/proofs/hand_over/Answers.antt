@@ -1,8 +1,8 @@
 -- `reading::hand_over` meets its contract: each way to where they meet knows the answer. Assumes nothing.
-use mathlib.Core.Logic.{⊎_elim}
 use mathlib.Core.Path.{refl, sym, ◌∙◌}
 use Rattle.reading.proofs.Promises.{handed_new, handed_old}
 use Rattle.reading.proofs.hand_over.Goals as goal
+use Rattle.reading.proofs.hand_over.Goals.{in-Accepted, in_default}
 
 pub returns : goal.returns
 returns c = record {

@@ -1,6 +1,7 @@
 -- `reading::judge` meets its contract: lines that are refused decide, and the scratch is cleared; else the columns hold the
 -- graph that they say, and the test of its shape decides, which leaves the scratch all 0. Assumes nothing.
-use mathlib.Core.Path.{refl}
+use mathlib.Core.Bool.{not}
+use mathlib.Core.Path.{refl, ap}
 use Rattle.reading.proofs.Promises.{lines_refused, rules_decide}
 use Rattle.reading.proofs.judge.Goals as goal
 
@@ -13,12 +14,12 @@ pub returns-then-not-fits : goal.returns-then-not-fits
 returns-then-not-fits c =
     let lines = c.read_lines-read.ensures in
     let judged = rules_decide _ _ _ _ _ _ _ lines c.in-Accepted.is c.has_shape-fits.ensures.value
-    c.if-not-fits.true in
+    (ap not c.if-not-fits.true) in
     record { held = judged; sides_after = c.has_shape-fits.ensures.sides_after; pending_after = c.has_shape-fits.ensures.pending_after; numbers_after = c.has_shape-fits.ensures.numbers_after; walked_after = c.has_shape-fits.ensures.walked_after }
 
 pub returns : goal.returns
 returns c =
     let lines = c.read_lines-read.ensures in
     let judged = rules_decide _ _ _ _ _ _ _ lines c.in-Accepted.is c.has_shape-fits.ensures.value
-    c.if-not-fits.false in
+    (ap not c.if-not-fits.false) in
     record { held = judged; sides_after = c.has_shape-fits.ensures.sides_after; pending_after = c.has_shape-fits.ensures.pending_after; numbers_after = c.has_shape-fits.ensures.numbers_after; walked_after = c.has_shape-fits.ensures.walked_after }

@@ -8,9 +8,6 @@ use Rattle.stepping.proofs.+take.Goals as goal
 pub returns-then-left-eq0 : goal.returns-then-left-eq0
 returns-then-left-eq0 t c = take_spent _ _ _ _ _ _ _ _ _ _ _ c.if-left-eq0.true _ c.come.ensures
 
-pub take-requires : goal.take-requires
-take-requires t c = (omega (arith, c.if-left-eq0.false, c.requires.0), tt)
-
 pub returns-then-kind-eq-SEQUENCE_WORD : goal.returns-then-kind-eq-SEQUENCE_WORD
 returns-then-kind-eq-SEQUENCE_WORD t c =
     take_sequence _ _ _ _ _ _ _ _ _ _ _ _ _ _ _ _
@@ -22,9 +19,6 @@ returns-then-kind-eq-SEQUENCE_WORD t c =
     c.sum.ensures
     c.put.ensures c.sum-larger.ensures
     c.take.ensures
-
-pub take-requires-then-is_split : goal.take-requires-then-is_split
-take-requires-then-is_split t c = (omega (arith, c.if-left-eq0.false, c.requires.0), tt)
 
 pub returns-then-is_split : goal.returns-then-is_split
 returns-then-is_split t c =
@@ -82,9 +76,6 @@ overflow_add-side-2 t c = omega (arith, side_few _ _ c.taken-side.ensures)
 pub word-reference-requires : goal.word-reference-requires
 word-reference-requires t c = omega (arith, side_few _ _ c.taken-side.ensures)
 
-pub take-done-requires : goal.take-done-requires
-take-done-requires t c = (omega (arith, c.if-left-eq0.false, c.requires.0), tt)
-
 pub close_one-requires : goal.close_one-requires
 close_one-requires t c = (side_few _ _ c.taken-side.ensures).1
 
@@ -104,9 +95,6 @@ returns-then-digit-ne3 t c =
     c.taken-subterm.ensures c.sum-next.ensures _ _ _
     _ _ _ _ (c.enter_side-drawn.ensures.value, (c.enter_side-drawn.ensures.nodes_after, c.enter_side-drawn.ensures.track_after)) c.word-reference.ensures
     c.take-done.ensures _ _ _ c.if-digit-ne3.true c.close_one.ensures
-
-pub take-across-requires : goal.take-across-requires
-take-across-requires t c = (omega (arith, c.if-left-eq0.false, c.requires.0), tt)
 
 pub returns : goal.returns
 returns t c =
