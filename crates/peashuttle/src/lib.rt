@@ -10,7 +10,7 @@ ghost use Rattle.tables.specs.Table.{judged};
 ghost use Rattle.columns.specs.words.Columns.{all_columns};
 ghost use Rattle.listing.specs.Listing.{listing};
 ghost use Rattle.table_parts.specs.code.TableTold as table_told;
-ghost use Rattle.run_parts.specs.code.RunTold as run-told;
+ghost use Rattle.run_parts.specs.code.RunTold as run_told;
 ghost use Rattle.track_parts.specs.code.TrackTold as track_told;
 
 use answers::Head;
@@ -26,7 +26,7 @@ use track_parts::{read_parts, save_parts, write_parts};
 
 // A table: its head, the columns of its terms and definitions, and its plan.
 #[repr(C)]
-#[derive(Clone, Copy)]
+#[derive(Drop)]
 pub struct TableBlock {
     pub head: Head,
     pub kinds: Kinds,
@@ -39,7 +39,7 @@ pub struct TableBlock {
 
 // A run: its stamp, room for an address, its counters and its words.
 #[repr(C)]
-#[derive(Clone, Copy)]
+#[derive(Drop)]
 pub struct RunBlock {
     pub stamp: usize,
     pub digits: Digits,
@@ -50,7 +50,7 @@ pub struct RunBlock {
 
 // A track that was read: its head, the marks of its nodes by number, and its arcs and meetings.
 #[repr(C)]
-#[derive(Clone, Copy)]
+#[derive(Drop)]
 pub struct TrackBlock {
     pub head: Head,
     pub labels: Column,
@@ -59,7 +59,7 @@ pub struct TrackBlock {
 
 // Room to work in, for saving and reading. What stands there does not matter, and it is all 0 afterwards.
 #[repr(C)]
-#[derive(Clone, Copy)]
+#[derive(Drop)]
 pub struct WorkBlock {
     pub labels: Column,
     pub graph: Track,
@@ -71,8 +71,7 @@ pub struct WorkBlock {
 }
 
 // The listing of an input, in front of a slice as far as it goes; tells how long it is.
-#[unsafe(no_mangle)]
-pub extern "C" fn peashuttle_proved_list(input: &[u8], out: &mut [u8]) -> usize
+pub fn peashuttle_proved_list(input: &[u8], out: &mut [u8]) -> usize
     ensures value { result ≡ length (listing input.now) }
     ensures out_after { out.new ≡ put out.old 0 (listing input.now) }
 {
@@ -80,8 +79,7 @@ pub extern "C" fn peashuttle_proved_list(input: &[u8], out: &mut [u8]) -> usize
 }
 
 // Checks a table's text, and fills a table's block with it and its plan; or tells the refusal and its line.
-#[unsafe(no_mangle)]
-pub extern "C" fn peashuttle_proved_check(
+pub fn peashuttle_proved_check(
     text: &[u8],
     line: &mut usize,
     table: &mut TableBlock,
@@ -107,10 +105,9 @@ pub extern "C" fn peashuttle_proved_check(
 }
 
 // Starts a run in a run's block.
-#[unsafe(no_mangle)]
-pub extern "C" fn peashuttle_proved_start(run: &mut RunBlock)
-    ensures { (run-told.with_start run.new.stamp run.new.nodes run.new.track
-        run.new.counters ≡ run-told.started)
+pub fn peashuttle_proved_start(run: &mut RunBlock)
+    ensures { (run_told.with_start run.new.stamp run.new.nodes run.new.track
+        run.new.counters ≡ run_told.started)
         × (run.new.digits ≡ run.old.digits) }
 {
     start_parts(
@@ -122,15 +119,14 @@ pub extern "C" fn peashuttle_proved_start(run: &mut RunBlock)
 }
 
 // Steps a run by the digits of an address; tells the event or the refusal.
-#[unsafe(no_mangle)]
-pub extern "C" fn peashuttle_proved_step(
+pub fn peashuttle_proved_step(
     address: &[u8],
     table: &TableBlock,
     run: &mut RunBlock,
 ) -> u32
-    ensures { (run-told.with_run result run.new.digits run.new.nodes run.new.track
+    ensures { (run_told.with_run result run.new.digits run.new.nodes run.new.track
         run.new.counters
-        ≡ run-told.stepped table.now.head run.old.stamp table.now.plan
+        ≡ run_told.stepped table.now.head run.old.stamp table.now.plan
         table.now.payloads run.old.digits run.old.nodes run.old.track
         run.old.counters address.now)
         × (run.new.stamp ≡ run.old.stamp) }
@@ -150,16 +146,15 @@ pub extern "C" fn peashuttle_proved_step(
 
 // Plays the line of a script that begins at the cursor, which goes behind an accepted one; tells the event, the refusal, or
 // that there is no further line.
-#[unsafe(no_mangle)]
-pub extern "C" fn peashuttle_proved_play(
+pub fn peashuttle_proved_play(
     script: &[u8],
     at: &mut usize,
     table: &TableBlock,
     run: &mut RunBlock,
 ) -> u32
-    ensures { (run-told.with_line result at.new run.new.digits run.new.nodes
+    ensures { (run_told.with_line result at.new run.new.digits run.new.nodes
         run.new.track run.new.counters
-        ≡ run-told.played table.now.head run.old.stamp table.now.plan
+        ≡ run_told.played table.now.head run.old.stamp table.now.plan
         table.now.payloads run.old.digits run.old.nodes run.old.track
         run.old.counters at.old (lines (drop at.old script.now)))
         × (run.new.stamp ≡ run.old.stamp) }
@@ -179,14 +174,13 @@ pub extern "C" fn peashuttle_proved_play(
 }
 
 // What a run offers: the events as the bits of a number; tells whether τ and ✓ are.
-#[unsafe(no_mangle)]
-pub extern "C" fn peashuttle_proved_offers(
+pub fn peashuttle_proved_offers(
     events: &mut u64,
     table: &TableBlock,
     run: &RunBlock,
 ) -> u32
-    ensures { run-told.with_events result events.new
-        ≡ run-told.offers table.now.head run.now.stamp table.now.plan
+    ensures { run_told.with_events result events.new
+        ≡ run_told.offers table.now.head run.now.stamp table.now.plan
         table.now.payloads run.now.nodes run.now.counters events.old }
 {
     offers_parts(
@@ -201,9 +195,8 @@ pub extern "C" fn peashuttle_proved_offers(
 }
 
 // Tells the status of a run.
-#[unsafe(no_mangle)]
-pub extern "C" fn peashuttle_proved_status(table: &TableBlock, run: &RunBlock) -> u32
-    ensures { result ≡ run-told.status table.now.head run.now.stamp
+pub fn peashuttle_proved_status(table: &TableBlock, run: &RunBlock) -> u32
+    ensures { result ≡ run_told.status table.now.head run.now.stamp
         table.now.plan table.now.payloads run.now.nodes
         run.now.counters }
 {
@@ -218,8 +211,7 @@ pub extern "C" fn peashuttle_proved_status(table: &TableBlock, run: &RunBlock) -
 }
 
 // Saves a run's track as its text, in front of a slice, and tells its length; or refusal 12.
-#[unsafe(no_mangle)]
-pub extern "C" fn peashuttle_proved_save(
+pub fn peashuttle_proved_save(
     text: &mut [u8],
     length: &mut usize,
     table: &TableBlock,
@@ -260,8 +252,7 @@ pub extern "C" fn peashuttle_proved_save(
 }
 
 // Reads a saved text against a table, and fills a track's block with it; or tells the refusal and its line.
-#[unsafe(no_mangle)]
-pub extern "C" fn peashuttle_proved_read(
+pub fn peashuttle_proved_read(
     text: &[u8],
     line: &mut usize,
     table: &TableBlock,
@@ -301,8 +292,7 @@ pub extern "C" fn peashuttle_proved_read(
 }
 
 // Writes a track that was read as its text, in front of a slice, and tells its length; or refusal 12.
-#[unsafe(no_mangle)]
-pub extern "C" fn peashuttle_proved_write(
+pub fn peashuttle_proved_write(
     text: &mut [u8],
     length: &mut usize,
     table: &TableBlock,

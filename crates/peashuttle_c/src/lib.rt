@@ -1,0 +1,174 @@
+// What a host links: the library's functions under plain names, as C calls them. Each promises what the library's function of the
+// same name does.
+#![tactic(auto)]
+
+ghost use Rattle.std.specs.Prelude.{◌≡◌, drop, length};
+ghost use Rattle.std.proofs.lemmas.List.Edits.{sets as put};
+ghost use Rattle.lines.specs.Line.{lines};
+ghost use Rattle.tables.specs.Table.{judged};
+ghost use Rattle.columns.specs.words.Columns.{all_columns};
+ghost use Rattle.listing.specs.Listing.{listing};
+ghost use Rattle.table_parts.specs.code.TableTold as table_told;
+ghost use Rattle.run_parts.specs.code.RunTold as run_told;
+ghost use Rattle.track_parts.specs.code.TrackTold as track_told;
+
+use peashuttle::{RunBlock, TableBlock, TrackBlock, WorkBlock};
+
+// The listing of an input, in front of a slice as far as it goes; tells how long it is.
+#[unsafe(no_mangle)]
+pub extern "C" fn peashuttle_proved_list(input: &[u8], out: &mut [u8]) -> usize
+    ensures value { result ≡ length (listing input.now) }
+    ensures out_after { out.new ≡ put out.old 0 (listing input.now) }
+{
+    peashuttle::peashuttle_proved_list(input, out)
+}
+
+// Checks a table's text, and fills a table's block with it and its plan; or tells the refusal and its line.
+#[unsafe(no_mangle)]
+pub extern "C" fn peashuttle_proved_check(
+    text: &[u8],
+    line: &mut usize,
+    table: &mut TableBlock,
+) -> u32
+    ensures { table_told.with_table result line.new table.new.head
+        (all_columns table.new.kinds table.new.payloads table.new.owners
+        table.new.after table.new.roots) table.new.plan
+        ≡ table_told.checked table.old.head (all_columns table.old.kinds
+        table.old.payloads table.old.owners table.old.after
+        table.old.roots) table.old.plan (judged text.now) }
+{
+    peashuttle::peashuttle_proved_check(text, line, table)
+}
+
+// Starts a run in a run's block.
+#[unsafe(no_mangle)]
+pub extern "C" fn peashuttle_proved_start(run: &mut RunBlock)
+    ensures { (run_told.with_start run.new.stamp run.new.nodes run.new.track
+        run.new.counters ≡ run_told.started)
+        × (run.new.digits ≡ run.old.digits) }
+{
+    peashuttle::peashuttle_proved_start(run);
+}
+
+// Steps a run by the digits of an address; tells the event or the refusal.
+#[unsafe(no_mangle)]
+pub extern "C" fn peashuttle_proved_step(
+    address: &[u8],
+    table: &TableBlock,
+    run: &mut RunBlock,
+) -> u32
+    ensures { (run_told.with_run result run.new.digits run.new.nodes run.new.track
+        run.new.counters
+        ≡ run_told.stepped table.now.head run.old.stamp table.now.plan
+        table.now.payloads run.old.digits run.old.nodes run.old.track
+        run.old.counters address.now)
+        × (run.new.stamp ≡ run.old.stamp) }
+{
+    peashuttle::peashuttle_proved_step(address, table, run)
+}
+
+// Plays the line of a script that begins at the cursor, which goes behind an accepted one; tells the event, the refusal, or
+// that there is no further line.
+#[unsafe(no_mangle)]
+pub extern "C" fn peashuttle_proved_play(
+    script: &[u8],
+    at: &mut usize,
+    table: &TableBlock,
+    run: &mut RunBlock,
+) -> u32
+    ensures { (run_told.with_line result at.new run.new.digits run.new.nodes
+        run.new.track run.new.counters
+        ≡ run_told.played table.now.head run.old.stamp table.now.plan
+        table.now.payloads run.old.digits run.old.nodes run.old.track
+        run.old.counters at.old (lines (drop at.old script.now)))
+        × (run.new.stamp ≡ run.old.stamp) }
+{
+    peashuttle::peashuttle_proved_play(script, at, table, run)
+}
+
+// What a run offers: the events as the bits of a number; tells whether τ and ✓ are.
+#[unsafe(no_mangle)]
+pub extern "C" fn peashuttle_proved_offers(
+    events: &mut u64,
+    table: &TableBlock,
+    run: &RunBlock,
+) -> u32
+    ensures { run_told.with_events result events.new
+        ≡ run_told.offers table.now.head run.now.stamp table.now.plan
+        table.now.payloads run.now.nodes run.now.counters events.old }
+{
+    peashuttle::peashuttle_proved_offers(events, table, run)
+}
+
+// Tells the status of a run.
+#[unsafe(no_mangle)]
+pub extern "C" fn peashuttle_proved_status(table: &TableBlock, run: &RunBlock) -> u32
+    ensures { result ≡ run_told.status table.now.head run.now.stamp
+        table.now.plan table.now.payloads run.now.nodes
+        run.now.counters }
+{
+    peashuttle::peashuttle_proved_status(table, run)
+}
+
+// Saves a run's track as its text, in front of a slice, and tells its length; or refusal 12.
+#[unsafe(no_mangle)]
+pub extern "C" fn peashuttle_proved_save(
+    text: &mut [u8],
+    length: &mut usize,
+    table: &TableBlock,
+    run: &RunBlock,
+    work: &mut WorkBlock,
+) -> u32
+    ensures { (track_told.with_text result length.new text.new
+        ≡ track_told.saved table.now.head run.now.stamp table.now.kinds
+        table.now.owners table.now.after table.now.roots run.now.nodes
+        run.now.track run.now.counters length.old text.old)
+        × (track_told.save_work work.new.labels work.new.graph work.new.marks
+        work.new.sides work.new.pending work.new.numbers work.new.spare
+        ≡ track_told.work_after_saving table.now.head run.now.stamp
+        (track_told.save_work work.old.labels work.old.graph work.old.marks
+        work.old.sides work.old.pending work.old.numbers
+        work.old.spare)) }
+{
+    peashuttle::peashuttle_proved_save(text, length, table, run, work)
+}
+
+// Reads a saved text against a table, and fills a track's block with it; or tells the refusal and its line.
+#[unsafe(no_mangle)]
+pub extern "C" fn peashuttle_proved_read(
+    text: &[u8],
+    line: &mut usize,
+    table: &TableBlock,
+    found: &mut TrackBlock,
+    work: &mut WorkBlock,
+) -> u32
+    ensures { (track_told.with_track result line.new found.new.head found.new.labels
+        found.new.graph
+        ≡ track_told.read table.now.head table.now.kinds table.now.payloads
+        table.now.after table.now.roots text.now line.old
+        found.old.head found.old.labels found.old.graph)
+        × (track_told.read_work work.new.marks work.new.spare work.new.sides
+        work.new.pending work.new.numbers work.new.labels
+        ≡ track_told.work_after_reading table.now.head (track_told.read_work work.old.marks
+        work.old.spare work.old.sides work.old.pending work.old.numbers
+        work.old.labels))
+        × (work.new.graph ≡ work.old.graph) }
+{
+    peashuttle::peashuttle_proved_read(text, line, table, found, work)
+}
+
+// Writes a track that was read as its text, in front of a slice, and tells its length; or refusal 12.
+#[unsafe(no_mangle)]
+pub extern "C" fn peashuttle_proved_write(
+    text: &mut [u8],
+    length: &mut usize,
+    table: &TableBlock,
+    found: &TrackBlock,
+) -> u32
+    ensures { track_told.with_text result length.new text.new
+        ≡ track_told.written_again table.now.head table.now.kinds table.now.owners
+        table.now.after table.now.roots found.now.head found.now.labels
+        found.now.graph length.old text.old }
+{
+    peashuttle::peashuttle_proved_write(text, length, table, found)
+}
