@@ -35,7 +35,7 @@ COUNTS = {  # of a function that calls itself: the crate and the constant of the
     "weighing::weigh_term": ("weighing", "WEIGH_LEVELS"),
     "stepping::take": ("runs", "STEP_LEVELS"),
     "offers::offers_at": ("rules", "CELL_ROOM"),
-    "offers::offers_of_term": ("offers", "TERM_LEVELS"),
+    "offers::offers_of_term": ("offers", "OFFER_LEVELS"),
 }
 WORD = 8  # bytes of a register, and of a return address
 FUNCTION = re.compile(r"^[0-9a-f]+ <(.+)>:$", re.MULTILINE)

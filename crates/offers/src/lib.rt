@@ -23,7 +23,7 @@ use plans::{
 use rules::CELL_ROOM;
 
 // A path has at most 64 digits, so a term has at most 65 levels.
-pub const TERM_LEVELS: usize = 65;
+pub const OFFER_LEVELS: usize = 65;
 
 // The words of a reference that tell how many cells the sides of a choice or parallel have.
 const FIRST_CELLS: usize = SIZES + 1;
@@ -81,7 +81,7 @@ fn offers_at(
         return unseen(false, false);
     }
     if n == 0 {
-        return offers_of_term(t, TERM_ROOM, TERM_LEVELS, plan, sets);
+        return offers_of_term(t, TERM_ROOM, OFFER_LEVELS, plan, sets);
     }
     let state = word(n, STATE, nodes);
     if ENTERED < state {
@@ -90,7 +90,7 @@ fn offers_at(
     let term = word(n, TERM, nodes);
     let nested = followed(n, term, bound, plan, nodes);
     if state == UNTOUCHED {
-        let resting = offers_of_term(term, TERM_ROOM, TERM_LEVELS, plan, sets);
+        let resting = offers_of_term(term, TERM_ROOM, OFFER_LEVELS, plan, sets);
         return settled(nested, resting);
     }
     let cells = word(n, FIRST_CELLS, nodes);

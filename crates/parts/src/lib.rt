@@ -9,7 +9,7 @@ ghost use Rattle.parts.specs.code.Parts as code;
 ghost use Rattle.parts.specs.words.Held.{HoldsWhole, StandingTold, SidesTold};
 
 use control::{ENTERED, FIRST_SIDE, Nodes, OMEGA, SECOND_SIDE, STATE, TERM, UNTOUCHED, word};
-use offers::{TERM_LEVELS, first_of, inside};
+use offers::{OFFER_LEVELS, first_of, inside};
 use plans::{EXTERNAL_WORD, PARALLEL_WORD, Plan, SEQUENCE_WORD, kind_of, second_of};
 
 // What stands at a reference up to a bound; at reference 0 a side that has not stepped, of a term.
@@ -147,7 +147,7 @@ fn unsequenced(t: usize, plan: &Plan) -> usize
     ensures { result ≡ code.unsequenced levels plan.now t }
 {
     let mut term = t;
-    let mut left = TERM_LEVELS;
+    let mut left = OFFER_LEVELS;
     while 0 < left {
         if kind_of(term, plan) != SEQUENCE_WORD {
             return term;
