@@ -6,8 +6,6 @@ use mathlib.Core.Path.{◌≡◌, refl, sym, ap, ◌∙◌}
 use mathlib.Core.Bool.{Bool, true, false}
 use mathlib.Core.List.{List, [], ◌∷◌, ◌++◌, append-nil}
 use mathlib.Core.Option.{Option, none, some}
-use mathlib.Core.Logic.{◌⊎◌, ⊎_elim}
-use denote.Enum.Declared.{tag_of, declared}
 use native.Mathlib.Omega.{arith}
 use lib.ListN.{length, take, drop, get_or, length-append, length-take, length-drop, drop_of_length-le}
 use lib.Dec.{eqb}
@@ -16,9 +14,7 @@ use borrow.Author.Tests.{le-leb, lt-leb, eqb-true, ne_eqb}
 use Rattle.lines.specs.Line.{choose, digit, Raw, full, open_ended, before, lines, bytes, frame}
 use Rattle.lines.specs.Line.{characters, LF, seen, Form, strict_form, answer_of, answer}
 use Rattle.lines.specs.code.Characters.{run, part}
-use Rattle.lines.specs.declared.Line.{Line}
 use Rattle.lines.specs.declared.Line.TheVariants.{Found, NoLine, End}
-use Rattle.lines.specs.contracts.Line.{enum}
 use Rattle.lines.proofs.Digits.{Digits, digits_inline, Split, split, lines_full, lines_open, lines_start}
 use Rattle.lines.proofs.Digits.{frame_broken, bytes_even, bytes_odd, pair_some}
 
@@ -253,13 +249,6 @@ pub is_line : (s : List ℕ) (at e n : ℕ) → answer at (lines (drop at s)) �
 is_line s at e n h =
     let r = found_first strict_form s at e n h in
     found_line s at e n r.0 r.1 r.2 r.3
-
--- a line by another variant's tag is not found
-pub not_found : (l : Line) → (tag_of (declared enum) l ≡ 1) ⊎ (tag_of (declared enum) l ≡ 2) → (e n : ℕ)
-    → l ≡ Found e n → ⊥
-not_found l k e n q =
-    let z = ap (tag_of (declared enum)) q in
-    ⊎_elim (λ t. omega arith) (λ t. omega arith) k
 
 -- the part of a text, where there is one and where there is none
 module _ (s : List ℕ) (a e : ℕ) where

@@ -3,10 +3,8 @@
 use Prim.Native.Nat.{ℕ, ◌+◌, ◌*◌, ◌≤◌, ◌<◌}
 use mathlib.Core.Path.{◌≡◌, refl, sym, ap, ◌∙◌}
 use mathlib.Core.List.{List, [], ◌∷◌, ◌++◌, map, append_assoc, append-nil, map-append}
-use mathlib.Core.Logic.{◌⊎◌, ⊎_elim}
 use mathlib.Core.Option.{Option, none, some}
 use native.Mathlib.Omega.{arith}
-use denote.Enum.Declared.{tag_of, declared}
 use lib.ListN.{length, drop, replicate}
 use lib.Seq.{sets, length-sets}
 use Rattle.lines.specs.Line.{Raw, characters, seen, answer_of, lines, text, hex}
@@ -24,7 +22,6 @@ use Rattle.runs.specs.declared.Answer.TheVariants.{Accepted}
 use Rattle.runs.specs.declared.Answer.TheVariants as Answers
 use Rattle.playing.specs.declared.Played.{Played}
 use Rattle.playing.specs.declared.Played.TheVariants.{Stepped, Refused, End}
-use Rattle.playing.specs.contracts.Played.{enum}
 use Rattle.spelling.specs.words.Puts.{Puts}
 use Rattle.spelling.proofs.Putting.{puts_then}
 use Rattle.spelling.proofs.Spelt.{text_append}

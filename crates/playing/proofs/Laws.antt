@@ -3,15 +3,11 @@
 use Prim.Native.Nat.{ℕ}
 use mathlib.Core.Path.{◌≡◌, refl}
 use mathlib.Core.List.{List}
-use mathlib.Core.Logic.{◌⊎◌, ⊎_elim}
-use native.Mathlib.Omega.{arith}
-use denote.Enum.Declared.{tag_of, declared}
 use lib.Seq.{sets}
 use Rattle.lines.specs.Line.{Raw}
 use Rattle.scripts.specs.Script as Script
 use Rattle.scripts.specs.declared.ScriptStep.{ScriptStep}
 use Rattle.scripts.specs.declared.ScriptStep.TheVariants as Lines
-use Rattle.scripts.specs.contracts.ScriptStep.{enum}
 use Rattle.runs.specs.code.Doors.{stepped}
 use Rattle.runs.specs.words.Held.{lent}
 use Rattle.playing.specs.words.Account.{Plays}

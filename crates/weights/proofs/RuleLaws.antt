@@ -3,15 +3,12 @@
 use Prim.Native.Nat.{ℕ, ◌+◌, ◌*◌, ◌-◌, ◌%◌, ◌≤◌, ◌<◌}
 use mathlib.Core.Path.{◌≡◌, refl}
 use mathlib.Core.Bool.{Bool, true, false}
-use mathlib.Core.Logic.{◌⊎◌, ⊎_elim}
 use native.Mathlib.Omega.{arith}
-use denote.Enum.Declared.{tag_of, declared}
 use borrow.Author.Tests.{le-leb, lt-leb, eq-eqb, ne_eqb}
 use Rattle.kinds.specs.Kind as Kind
 use Rattle.sets.specs.EventSet.{member}
 use Rattle.rules.specs.declared.Event.{Event}
 use Rattle.rules.specs.declared.Event.TheVariants.{Tau, Tick, Visible}
-use Rattle.rules.specs.contracts.Event.{enum}
 use Rattle.control.specs.words.Sums.{capped}
 use Rattle.weights.specs.code.Rules.{step, started, settled, by_leaf, entering, end_of, barred, stays}
 use Rattle.weights.specs.code.Rules.{shown, resized, one, agree, both, ended}

@@ -1,7 +1,5 @@
-use Prim.Native.Nat.{◌-◌}
 use mathlib.Core.Path.{sym, ◌∙◌}
 use borrow.Author.Rules.{rules}
-use borrow.Author.Tests.{not-true, not-false}
 use native.Mathlib.Omega.{arith}
 use Rattle.desk_lines.proofs.Capitals.{run_over, run_stops, run_goes_on}
 use Rattle.desk_lines.proofs.digits_end.Goals as goal

@@ -1,6 +1,5 @@
-use Prim.Native.Nat.{◌-◌}
 use mathlib.Core.Path.{sym, ◌∙◌}
-use mathlib.Core.Logic.{⊎_elim, inl, inr}
+use mathlib.Core.Logic.{inl, inr}
 use native.Mathlib.Nat.{sub-zero}
 use Rattle.drawing.proofs.Laws.{joined_past, joined_end, joined_turn, parts_kept}
 use native.Mathlib.Omega.{arith}

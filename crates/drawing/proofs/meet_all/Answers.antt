@@ -1,4 +1,3 @@
-use Prim.Native.Nat.{◌-◌}
 use mathlib.Core.Path.{refl, sym, ◌∙◌}
 use Rattle.drawing.proofs.Laws.{met_all_turn, met_all_end, parts_kept}
 use native.Mathlib.Omega.{arith}

@@ -1,4 +1,3 @@
-use Prim.Native.Nat.{◌-◌}
 use mathlib.Core.Path.{refl, sym, ◌∙◌}
 use Rattle.drawing.proofs.Laws.{met_each_turn, met_each_end, parts_kept}
 use native.Mathlib.Omega.{arith}

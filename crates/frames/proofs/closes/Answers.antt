@@ -2,7 +2,6 @@
 -- has another tag. Assumes nothing.
 use mathlib.Core.Path.{◌≡◌, refl, sym, ap}
 use mathlib.Core.Bool.{false}
-use mathlib.Core.List.{[], ◌∷◌}
 use Prim.Native.Nat.{ℕ}
 use Rattle.frames.specs.TableFrame.{closes}
 use Rattle.frames.specs.declared.Frame.{Frame}

@@ -1,4 +1,3 @@
-use Prim.Native.Nat.{◌-◌}
 use native.Mathlib.Omega.{arith}
 use Rattle.spelling.proofs.Putting.{owed_length}
 use Rattle.framing.proofs.Spelt.{pairs_owed, pairs_put, pair_less, pairs_long}

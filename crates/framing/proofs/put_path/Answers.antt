@@ -1,4 +1,3 @@
-use Prim.Native.Nat.{◌-◌}
 use native.Mathlib.Omega.{arith}
 use Rattle.spelling.proofs.Putting.{owed_all, owed_length}
 use Rattle.framing.proofs.Spelt.{digit_less, digits_put, digits_short}

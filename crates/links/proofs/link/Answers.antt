@@ -1,7 +1,5 @@
 use mathlib.Core.Path.{refl, ◌∙◌}
-use Prim.Native.Nat.{◌-◌}
 use native.Mathlib.Nat.{min-le_right}
-use mathlib.Core.Logic.{⊎_elim}
 use native.Mathlib.Omega.{arith}
 use Rattle.links.proofs.LinkLaws.{fit_turn, linked_turn, fits_lost, fits_kept}
 use Rattle.links.proofs.LinkLaws.{linking_over}

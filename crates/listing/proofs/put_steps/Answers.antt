@@ -1,4 +1,3 @@
-use Prim.Native.Nat.{◌-◌}
 use native.Mathlib.Omega.{arith}
 use Rattle.listing.proofs.Stepping.{going_starts, going_length, going_stops, going_on}
 use Rattle.listing.proofs.Stepping.{going_turn}

@@ -1,4 +1,3 @@
-use Prim.Native.Nat.{◌-◌}
 use native.Mathlib.Omega.{arith}
 use Rattle.looking.proofs.LookLaws.{none_counted, counted_past, counted_all, counted_on}
 use Rattle.looking.proofs.LookLaws.{one_found, none_found}

@@ -1,4 +1,3 @@
-use Prim.Native.Nat.{◌-◌}
 use native.Mathlib.Omega.{arith}
 use Rattle.opening.proofs.Turns.{held_line, all_read, none_ends, line_ends}
 use Rattle.node_lines.proofs.Laws.{nodes_none, node_more}

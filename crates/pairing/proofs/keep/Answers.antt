@@ -1,6 +1,6 @@
 -- `pairing::keep` meets its contract, by which ends have numbers and which is lower. Assumes
 -- nothing.
-use mathlib.Core.Logic.{inl, inr, ⊎_elim}
+use mathlib.Core.Logic.{inl, inr}
 use Rattle.pairing.proofs.Renumbering.{no_first, no_second, both_turned, both_straight}
 use Rattle.pairing.proofs.keep.Goals as goal
 use Rattle.pairing.proofs.keep.Goals.{then-either+else-high-low, else-either}

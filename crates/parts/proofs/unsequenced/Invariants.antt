@@ -1,6 +1,5 @@
 -- `parts::unsequenced` meets its contract: what stands in the term that is reached, with the levels that are left, is what
 -- stands in the first one; and the levels left fall. Assumes nothing.
-use Prim.Native.Nat.{◌-◌}
 use mathlib.Core.Path.{◌≡◌}
 use Rattle.offers.specs.code.Following.{levels}
 use Rattle.parts.specs.code.Parts.{unsequenced}

@@ -1,7 +1,6 @@
 -- `scripts::judge` meets its contract: each `return` stands behind the tests that led to it, and a law of
 -- `Judged` says what a line that they let through asks for. Assumes nothing.
 use mathlib.Core.Path.{sym, ◌∙◌}
-use borrow.Author.Tests.{not-true, not-false}
 use Rattle.scripts.proofs.Judged.{too_short, other_tag, other_count, too_many, other_digit, step_asked}
 use Rattle.scripts.proofs.judge.Goals as goal
 

@@ -3,7 +3,6 @@
 -- is stored. Assumes nothing.
 use mathlib.Core.Path.{sym, ap, ◌∙◌}
 use lib.Seq.{sets}
-use Rattle.lines.proofs.Laws.{not_found}
 use Rattle.scripts.proofs.Steps.{no_line, refused_line, step_line}
 use Rattle.scripts.proofs.next_step.Goals as goal
 

@@ -1,4 +1,3 @@
-use Prim.Native.Nat.{◌-◌}
 use native.Mathlib.Omega.{arith}
 use Rattle.shape_rules.proofs.RuleTests.{none_compared, all_ascend, pair_falls, pair_rises}
 use Rattle.shape_rules.proofs.ascend.Goals as goal

@@ -1,4 +1,3 @@
-use Prim.Native.Nat.{◌-◌}
 use native.Mathlib.Omega.{arith}
 use Rattle.graphs.specs.Shape.{from_on}
 use Rattle.shape_rules.proofs.RuleTests.{told_equal, told_other, numbers_listed, none_tested}

@@ -1,5 +1,4 @@
 use mathlib.Core.Path.{◌∙◌, sym}
-use Prim.Native.Nat.{◌-◌}
 use native.Mathlib.Omega.{arith}
 use Rattle.tables.proofs.Judged.{stops_is}
 use Rattle.tables.proofs.Loop.{going_starts, going_stops, going_on, going_ready, going_closes}

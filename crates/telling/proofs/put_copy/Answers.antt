@@ -1,4 +1,3 @@
-use Prim.Native.Nat.{◌-◌}
 use native.Mathlib.Omega.{arith}
 use Rattle.spelling.proofs.Putting.{owed_length}
 use Rattle.telling.proofs.Laws.{copy_owed, copy_less, copy_done}

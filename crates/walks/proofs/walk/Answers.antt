@@ -1,4 +1,3 @@
-use Prim.Native.Nat.{◌-◌}
 use mathlib.Core.Path.{refl}
 use native.Mathlib.Omega.{arith}
 use Rattle.walks.proofs.Turns.{walk_begins, walk_done, pending_most, next_below, turn_passes}

@@ -1,8 +1,6 @@
 use Rattle.control.proofs.Sums.{one_more}
 use Rattle.weighing.proofs.WeighLaws.{term_spent, term_sequence, term_leaf, term_astray}
 use Rattle.weighing.proofs.WeighLaws.{term_one, term_both}
-use Prim.Native.Nat.{◌-◌}
-use native.Mathlib.Omega.{arith}
 use Rattle.weighing.proofs.+weigh_term.Goals as goal
 
 pub returns-then-left-eq0 : goal.returns-then-left-eq0

@@ -1,4 +1,3 @@
-use Prim.Native.Nat.{◌-◌}
 use mathlib.Core.Path.{sym, ap, ◌∙◌}
 use Rattle.kinds.specs.Kind.{subterms}
 use Rattle.places.proofs.Ways.{inside, way_begun, way_done, way_short, way_leaf, way_on}

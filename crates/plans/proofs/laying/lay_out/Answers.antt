@@ -1,5 +1,4 @@
 use mathlib.Core.Path.{◌∙◌}
-use Prim.Native.Nat.{◌-◌}
 use native.Mathlib.Omega.{arith}
 use Rattle.plans.specs.code.Laid.{turns}
 use Rattle.plans.proofs.Laid.{turn_more, turns_all}
