@@ -7,17 +7,19 @@ mod words;
 
 use frames::{DEFINITION_ROOM, TERM_ROOM};
 use inputs::{input_room, table_end};
+use standard_input::read_full;
+use std::io;
 use tables::{Checked, check};
 use words::{say_refusal, say_script, say_table};
 
-fn main() {
+fn main(rt: HostRuntime) -> io::Result<()> {
     let mut buffer = input_room();
-    let count = io::read_full(0, &mut buffer);
-    judge(&buffer[..count]);
+    let count = read_full(&mut rt.stdin(), &mut buffer)?;
+    judge(&rt, &buffer[..count])
 }
 
 // Judges the table's text, and behind it the script.
-fn judge(text: &[u8]) {
+fn judge(rt: &impl Print, text: &[u8]) -> io::Result<()> {
     let mut kinds = [0u8; TERM_ROOM];
     let mut payloads = [0u64; TERM_ROOM];
     let mut owners = [0u8; TERM_ROOM];
@@ -33,10 +35,10 @@ fn judge(text: &[u8]) {
         &mut roots,
     );
     match checked {
-        Checked::Refused { number, line } => say_refusal(b"table", number, line),
+        Checked::Refused { number, line } => say_refusal(rt, b"table", number, line),
         Checked::Accepted(counts) => {
-            say_table(counts, &kinds, &payloads, &owners, &after, &roots);
-            say_script(&text[end..]);
+            say_table(rt, counts, &kinds, &payloads, &owners, &after, &roots)?;
+            say_script(rt, &text[end..])
         }
     }
 }

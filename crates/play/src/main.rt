@@ -3,7 +3,6 @@
 // script is over its room. All that it tells comes from the proved libraries; here it is only read and written.
 #![tactic(auto)]
 
-mod standing;
 mod telling;
 
 use columns::{After, Kinds, Owners, Payloads, Roots};
@@ -14,17 +13,19 @@ use plans::{PLAN_WORDS, Plan, lay_out};
 use playing::{Played, play};
 use runs::start;
 use scripts::{DIGIT_ROOM, SCRIPT_TEXT_ROOM};
+use standard_input::read_full;
+use std::io;
 use tables::{Checked, TableCounts, check};
-use telling::{tell_counters, tell_run};
+use telling::tell_run;
 
-fn main() {
+fn main(rt: HostRuntime) -> io::Result<()> {
     let mut buffer = input_room();
-    let count = io::read_full(0, &mut buffer);
-    play_input(&buffer[..count]);
+    let count = read_full(&mut rt.stdin(), &mut buffer)?;
+    play_input(&rt, &buffer[..count])
 }
 
 // Checks the table's text, and plays the script behind it.
-fn play_input(text: &[u8]) {
+fn play_input(rt: &impl Print, text: &[u8]) -> io::Result<()> {
     let mut kinds = [0u8; TERM_ROOM];
     let mut payloads = [0u64; TERM_ROOM];
     let mut owners = [0u8; TERM_ROOM];
@@ -40,9 +41,10 @@ fn play_input(text: &[u8]) {
         &mut roots,
     );
     let Checked::Accepted(counts) = checked else {
-        return;
+        return Ok(());
     };
     play_script(
+        rt,
         &text[end..],
         counts,
         &kinds,
@@ -50,11 +52,12 @@ fn play_input(text: &[u8]) {
         &owners,
         &after,
         &roots,
-    );
+    )
 }
 
 // Plays a script over a table's columns, and tells what the run has come to.
 fn play_script(
+    rt: &impl Print,
     script: &[u8],
     counts: TableCounts,
     kinds: &Kinds,
@@ -62,9 +65,9 @@ fn play_script(
     owners: &Owners,
     after: &After,
     roots: &Roots,
-) {
+) -> io::Result<()> {
     if SCRIPT_TEXT_ROOM < script.len() {
-        return;
+        return Ok(());
     }
     let mut plan = [0u16; PLAN_WORDS];
     lay_out(counts.terms, kinds, payloads, after, roots, &mut plan);
@@ -81,12 +84,11 @@ fn play_script(
         &mut counters,
     );
     tell_run(
-        kinds, owners, after, roots, payloads, &plan, &nodes, &track, &counters,
-    );
+        rt, kinds, owners, after, roots, payloads, &plan, &nodes, &track, &counters,
+    )
 }
 
-// Plays lines up to the first that is no step, and tells the counters before the first and behind each; a script has no
-// more lines than bytes.
+// Plays lines up to the first that is no step; a script has no more lines than bytes.
 fn play_lines(
     script: &[u8],
     plan: &Plan,
@@ -98,13 +100,11 @@ fn play_lines(
     let mut digits = [0u8; DIGIT_ROOM];
     let mut at = 0;
     let mut count = 0;
-    tell_counters(counters);
     while count < SCRIPT_TEXT_ROOM {
         let played = play(script, at, &mut digits, plan, sets, nodes, track, counters);
         let Played::Stepped { event: _, next } = played else {
             return;
         };
-        tell_counters(counters);
         at = next;
         count += 1;
     }

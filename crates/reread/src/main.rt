@@ -5,10 +5,12 @@
 use columns::{After, Kinds, Owners, Payloads, Roots};
 use control::{REFERENCES, TRACK_WORDS, Track};
 use frames::{DEFINITION_ROOM, TERM_ROOM};
-use inputs::{STANDARD_OUTPUT, table_end};
+use inputs::table_end;
 use lines::part_of;
 use links::{Column, GraphCounts, SIDE_WORDS};
 use reading::{Read, read_track};
+use standard_input::read_full;
+use std::io;
 use tables::{Checked, check};
 use writing::{Saved, write};
 
@@ -18,18 +20,17 @@ const REREAD_ROOM: usize = 262145;
 // No text that is written again is longer than the input.
 const TRACK_ROOM: usize = 262144;
 
-fn main() {
+fn main(rt: HostRuntime) -> io::Result<()> {
     let mut buffer = reread_room();
-    let count = io::read_full(0, &mut buffer);
+    let count = read_full(&mut rt.stdin(), &mut buffer)?;
     if TRACK_ROOM < count {
-        tell_refusal(6, 0);
-        return;
+        return tell_refusal(&rt, 6, 0);
     }
-    reread_input(&buffer[..count]);
+    reread_input(&rt, &buffer[..count])
 }
 
 // Checks the table's text, and reads the saved track behind it.
-fn reread_input(text: &[u8]) {
+fn reread_input(rt: &impl Print, text: &[u8]) -> io::Result<()> {
     let mut kinds = [0u8; TERM_ROOM];
     let mut payloads = [0u64; TERM_ROOM];
     let mut owners = [0u8; TERM_ROOM];
@@ -45,8 +46,9 @@ fn reread_input(text: &[u8]) {
         &mut roots,
     );
     match checked {
-        Checked::Refused { number, line } => tell_refusal(number, line),
+        Checked::Refused { number, line } => tell_refusal(rt, number, line),
         Checked::Accepted(counts) => reread_track(
+            rt,
             &text[end..],
             counts.definitions,
             &kinds,
@@ -60,6 +62,7 @@ fn reread_input(text: &[u8]) {
 
 // Reads a saved track against a table's columns, and writes it again.
 fn reread_track(
+    rt: &impl Print,
     saved: &[u8],
     definitions: usize,
     kinds: &Kinds,
@@ -67,7 +70,7 @@ fn reread_track(
     owners: &Owners,
     after: &After,
     roots: &Roots,
-) {
+) -> io::Result<()> {
     let mut labels = [0u16; REFERENCES];
     let mut graph = [0u16; TRACK_WORDS];
     let mut own_labels = [0u16; REFERENCES];
@@ -93,13 +96,16 @@ fn reread_track(
         &mut walked,
     );
     match answer {
-        Read::Refused { number, line } => tell_refusal(number, line),
-        Read::Accepted(counts) => write_track(counts, kinds, owners, after, roots, &labels, &graph),
+        Read::Refused { number, line } => tell_refusal(rt, number, line),
+        Read::Accepted(counts) => {
+            write_track(rt, counts, kinds, owners, after, roots, &labels, &graph)
+        }
     }
 }
 
 // Writes a track that was read.
 fn write_track(
+    rt: &impl Print,
     counts: GraphCounts,
     kinds: &Kinds,
     owners: &Owners,
@@ -107,25 +113,20 @@ fn write_track(
     roots: &Roots,
     labels: &Column,
     graph: &Track,
-) {
+) -> io::Result<()> {
     let mut text = track_room();
     let saved = write(
         counts, labels, graph, kinds, owners, after, roots, &mut text,
     );
     match saved {
-        Saved::Short(_) => tell_refusal(12, 0),
-        Saved::Written(length) => {
-            io::write_all(STANDARD_OUTPUT, part_of(&text, 0, length));
-        }
+        Saved::Short(_) => tell_refusal(rt, 12, 0),
+        Saved::Written(length) => rt.write_all(part_of(&text, 0, length)),
     }
 }
 
 // `4e rr llll`: the refusal that ends the work.
-fn tell_refusal(number: u8, line: usize) {
-    io::write_all(STANDARD_OUTPUT, b"4e");
-    io::print_hex(STANDARD_OUTPUT, number as u64, 2);
-    io::print_hex(STANDARD_OUTPUT, line as u64, 4);
-    io::write_all(STANDARD_OUTPUT, b"\n");
+fn tell_refusal(rt: &impl Print, number: u8, line: usize) -> io::Result<()> {
+    println!(rt; "4e{number:02x}{line:04x}")
 }
 
 fn reread_room() -> [u8; REREAD_ROOM] {

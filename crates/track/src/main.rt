@@ -2,19 +2,21 @@
 // the library's; here it is only read and written.
 #![tactic(auto)]
 
-use inputs::{STANDARD_INPUT, STANDARD_OUTPUT, input_room};
+use inputs::input_room;
 use lines::part_of;
 use listing::list;
+use standard_input::read_full;
+use std::io;
 
 // No listing is longer.
 const LISTING_ROOM: usize = 131086;
 
-fn main() {
+fn main(rt: HostRuntime) -> io::Result<()> {
     let mut input = input_room();
-    let count = io::read_full(STANDARD_INPUT, &mut input);
+    let count = read_full(&mut rt.stdin(), &mut input)?;
     let mut out = listing_room();
     let length = list(&input[..count], &mut out);
-    io::write_all(STANDARD_OUTPUT, part_of(&out, 0, length));
+    rt.write_all(part_of(&out, 0, length))
 }
 
 fn listing_room() -> [u8; LISTING_ROOM] {
