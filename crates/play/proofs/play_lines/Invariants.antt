@@ -1,6 +1,6 @@
 -- `play::play_lines` ends and does nothing undefined: the count of lines stays within the room of a script, and what is
--- left up to that falls. Assumes nothing.
-use Prim.Native.Nat.{◌≤◌, ◌-◌}
+-- left up to that falls.
+use Rattle.std.proofs.Common.{◌≤◌, ◌-◌}
 use Rattle.play.proofs.play_lines.Given as goal
 
 abbrev pub invariant-loop-count : goal.invariant-loop-count
