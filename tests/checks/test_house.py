@@ -245,6 +245,11 @@ def settled_by(root, one, exported):
     return called or (one.crate, one.name)
 
 
+def is_generic(root, one):
+    """Whether a function is over a type parameter: what it comes to is up to that type, as what a reader gives."""
+    return re.search(rf"^pub fn {one.name}<(?!')", sources.text_of(root, one.file), re.MULTILINE) is not None
+
+
 def unsettled_functions(root):
     """Functions that other crates can call, and of which no law says that their promise settles the outcome.
 
@@ -254,6 +259,8 @@ def unsettled_functions(root):
     laws = "\n".join(sources.text_of(root, file) for file in sources.files(root, "outcomes/proofs/*.antt"))
     exported = {(one.crate, one.name): one for one in exported_functions(root)}
     for one in exported.values():
+        if is_generic(root, one):
+            continue
         crate, name = settled_by(root, one, exported)
         law = f"{crate}_{name}_settled"
         if not re.search(rf"^pub {re.escape(law)} : Settles\s", laws, re.MULTILINE):
@@ -542,6 +549,21 @@ pub walks_wide_settled : Settles
     wide.Learnt (λ κ x s. x)
 """)
         self.assertEqual([fault.split(": ")[0] for fault in unsettled_functions(root)], ["walks::link"])
+
+    def test_what_a_reader_gives_is_not_settled(self):
+        root = self.tree("""\
+== inputs/src/lib.rt
+pub fn read_all<R: Read>(reader: &mut R) -> usize {
+    0
+}
+
+pub fn part_of<'a>(text: &'a [u8]) -> &'a [u8] {
+    text
+}
+== uses/src/lib.rt
+use inputs::{part_of, read_all};
+""")
+        self.assertEqual([fault.split(": ")[0] for fault in unsettled_functions(root)], ["inputs::part_of"])
 
     def test_settled_by_what_is_called(self):
         root = self.tree("""\

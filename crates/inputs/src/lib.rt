@@ -11,11 +11,6 @@ use lines::LF;
 // Bytes of an input that are enough: the rooms of a table's text and of a script's, and one byte more.
 pub const INPUT_ROOM: usize = 98305;
 
-// Where a program reads and writes.
-pub const STANDARD_INPUT: i32 = 0;
-
-pub const STANDARD_OUTPUT: i32 = 1;
-
 // The table's text runs through the first line that starts `1f` or `1F`, or to the end.
 pub fn table_end(text: &[u8]) -> usize
     ensures { result ≡ table_length (lines text.now) }
