@@ -32,6 +32,8 @@ back (l ∷ ls) = choose (starts_1f (characters l)) ls (back ls)
 
 front_lines : (ls : List Raw) → Lines ls → Lines (front ls)
 unfolding front
+front_lines (open_ended [] ∷ ls) x5 = elim x5 [ ]
+front_lines (open_ended (c ∷ cs) ∷ (_ ∷ _)) x9 = elim x9 [ ]
 front_lines [] no_lines = no_lines
 front_lines (full cs ∷ ls) (full_first t u) = go (starts_1f (characters (full cs))) (front_lines ls u)
   where
@@ -46,6 +48,8 @@ front_lines (open_ended (c ∷ cs) ∷ []) (open_last t) = go (starts_1f (charac
 
 back_lines : (ls : List Raw) → Lines ls → Lines (back ls)
 unfolding back
+back_lines (open_ended [] ∷ ls) x5 = elim x5 [ ]
+back_lines (open_ended (c ∷ cs) ∷ (_ ∷ _)) x9 = elim x9 [ ]
 back_lines [] no_lines = no_lines
 back_lines (full cs ∷ ls) (full_first t u) = go (starts_1f (characters (full cs))) (back_lines ls u)
   where

@@ -64,6 +64,7 @@ pairs_digits [] no_pair = (no_more, refl)
 pairs_digits (h ∷ l ∷ cs) (pair_first p q t) =
     let r = pairs_digits cs t in
     (one_more (digit_counts p) (one_more (digit_counts q) r.0), omega (arith, r.1))
+pairs_digits (h ∷ []) x4 = elim x4 [ ]
 
 pairs_worded : (cs bs : List ℕ) → bytes (map small cs) ≡ some bs → Pairs cs
 unfolding bytes
@@ -95,6 +96,7 @@ ended (x ∷ xs) one_return = by_CR_LF
 at_least_two : (own rs : List ℕ) → 2 ≤ length own → Pairs own → End rs → Worded (full (own ++ rs))
 at_least_two [] rs h t e = absurd (omega arith)
 at_least_two (h ∷ l ∷ cs) rs n (pair_first p q t) e = worded p q t e
+at_least_two (h ∷ []) rs n t e = elim t [ ]
 
 pub read_worded : (line : Raw) (bs : List ℕ) → desk_frame line ≡ some bs → Worded line
 unfolding desk_frame strict frame
