@@ -79,11 +79,7 @@ pub fn peashuttle_proved_list(input: &[u8], out: &mut [u8]) -> usize
 }
 
 // Checks a table's text, and fills a table's block with it and its plan; or tells the refusal and its line.
-pub fn peashuttle_proved_check(
-    text: &[u8],
-    line: &mut usize,
-    table: &mut TableBlock,
-) -> u32
+pub fn peashuttle_proved_check(text: &[u8], line: &mut usize, table: &mut TableBlock) -> u32
     ensures { table_told.with_table result line.new table.new.head
         (all_columns table.new.kinds table.new.payloads table.new.owners
         table.new.after table.new.roots) table.new.plan
@@ -119,11 +115,7 @@ pub fn peashuttle_proved_start(run: &mut RunBlock)
 }
 
 // Steps a run by the digits of an address; tells the event or the refusal.
-pub fn peashuttle_proved_step(
-    address: &[u8],
-    table: &TableBlock,
-    run: &mut RunBlock,
-) -> u32
+pub fn peashuttle_proved_step(address: &[u8], table: &TableBlock, run: &mut RunBlock) -> u32
     ensures { (run_told.with_run result run.new.digits run.new.nodes run.new.track
         run.new.counters
         ≡ run_told.stepped table.now.head run.old.stamp table.now.plan
@@ -174,11 +166,7 @@ pub fn peashuttle_proved_play(
 }
 
 // What a run offers: the events as the bits of a number; tells whether τ and ✓ are.
-pub fn peashuttle_proved_offers(
-    events: &mut u64,
-    table: &TableBlock,
-    run: &RunBlock,
-) -> u32
+pub fn peashuttle_proved_offers(events: &mut u64, table: &TableBlock, run: &RunBlock) -> u32
     ensures { run_told.with_events result events.new
         ≡ run_told.offers table.now.head run.now.stamp table.now.plan
         table.now.payloads run.now.nodes run.now.counters events.old }

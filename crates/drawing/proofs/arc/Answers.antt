@@ -10,9 +10,9 @@ returns c =
     record {
       value = arc_counted _ _ c.sum.ensures;
       track_after = elim c.if-at-lt-ARC_ROOM.branch [
-        then-at-lt-ARC_ROOM w ↦
+        | then-at-lt-ARC_ROOM w ↦
             w.track-is
             ∙ arc_put _ _ _ _ w.if-at-lt-ARC_ROOM.true _ _ w.put_track.ensures w.put_track-then-at-lt-ARC_ROOM.ensures
-      | else-at-lt-ARC_ROOM w ↦ w.track-is ∙ arc_left_out _ _ _ _ w.if-at-lt-ARC_ROOM.false
+        | else-at-lt-ARC_ROOM w ↦ w.track-is ∙ arc_left_out _ _ _ _ w.if-at-lt-ARC_ROOM.false
       ];
     }

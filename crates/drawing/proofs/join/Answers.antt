@@ -35,8 +35,8 @@ loop-i-preserved c =
     c.track_word-from.ensures c.track_word-target.ensures
     c.leads.ensures _ _
     (elim c.if-leads.branch [
-      then-leads w ↦ inl (w.if-leads.true, w.kept-is ∙ w.arc-kept.ensures.value, w.track-is ∙ w.arc-kept.ensures.track_after)
-    | else-leads w ↦ inr (w.if-leads.false, w.kept-is, w.track-is)
+      | then-leads w ↦ inl (w.if-leads.true, w.kept-is ∙ w.arc-kept.ensures.value, w.track-is ∙ w.arc-kept.ensures.track_after)
+      | else-leads w ↦ inr (w.if-leads.false, w.kept-is, w.track-is)
     ])
     ∙ c.loop-i.invariant
 

@@ -10,7 +10,7 @@ returns c =
     record {
       value = met_counted _ _ c.sum.ensures;
       track_after = elim c.if-at-lt-NODE_ROOM.branch [
-        then-at-lt-NODE_ROOM w ↦ w.track-is ∙ met_put _ _ _ w.if-at-lt-NODE_ROOM.true _ w.put_track.ensures
-      | else-at-lt-NODE_ROOM w ↦ w.track-is ∙ met_left_out _ _ _ w.if-at-lt-NODE_ROOM.false
+        | then-at-lt-NODE_ROOM w ↦ w.track-is ∙ met_put _ _ _ w.if-at-lt-NODE_ROOM.true _ w.put_track.ensures
+        | else-at-lt-NODE_ROOM w ↦ w.track-is ∙ met_left_out _ _ _ w.if-at-lt-NODE_ROOM.false
       ];
     }

@@ -10,9 +10,9 @@ returns c =
     record {
       value = meeting_counted _ _ c.sum.ensures;
       track_after = elim c.if-at-lt-MEETING_ROOM.branch [
-        then-at-lt-MEETING_ROOM w ↦
+        | then-at-lt-MEETING_ROOM w ↦
             w.track-is
             ∙ meeting_put _ _ _ _ w.if-at-lt-MEETING_ROOM.true _ _ w.put_track.ensures w.put_track-then-at-lt-MEETING_ROOM.ensures
-      | else-at-lt-MEETING_ROOM w ↦ w.track-is ∙ meeting_left_out _ _ _ _ w.if-at-lt-MEETING_ROOM.false
+        | else-at-lt-MEETING_ROOM w ↦ w.track-is ∙ meeting_left_out _ _ _ _ w.if-at-lt-MEETING_ROOM.false
       ];
     }

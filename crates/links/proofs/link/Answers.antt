@@ -34,8 +34,8 @@ loop-i-preserved c =
       omega arith,
       known.1,
       known.2 ∙ elim c.if-not-fit.branch [
-        then-not-fit w ↦ fits_lost fits _ linking.result _ _ fit w.if-not-fit.true w.fits-is
-      | else-not-fit w ↦ fits_kept fits _ linking.result _ _ fit w.if-not-fit.false w.fits-is
+        | then-not-fit w ↦ fits_lost fits _ linking.result _ _ fit w.if-not-fit.true w.fits-is
+        | else-not-fit w ↦ fits_kept fits _ linking.result _ _ fit w.if-not-fit.false w.fits-is
       ],
       known.3 ∙ linked_turn _ _ _ _ _ _ _ _ _ _ _ c.loop-i-test.true c.track_word-from.ensures
           c.track_word-to.ensures (linking.ensures.value, linking.ensures.sides_after),

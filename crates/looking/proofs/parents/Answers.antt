@@ -30,8 +30,8 @@ loop-i-preserved c =
     counted_on _ _ _ _ _ _ c.loop-i.invariant c.loop-i-test.true c.if-i-ge-ARC_ROOM.false
     _ _ c.track_word-to.ensures c.leads.ensures c.if-leads.found
     (elim c.if-leads.branch [
-      then-leads w ↦ one_found _ _ _ w.if-leads.true w.found-is
-    | else-leads w ↦ none_found _ _ _ w.if-leads.false w.found-is
+      | then-leads w ↦ one_found _ _ _ w.if-leads.true w.found-is
+      | else-leads w ↦ none_found _ _ _ w.if-leads.false w.found-is
     ])
 
 pub returns : goal.returns

@@ -25,7 +25,7 @@ pub returns : goal.returns
 returns c =
     let told = both_straight _ _ _ _ _ _ c.if-first-eq0.false c.if-second-eq0.false
     (elim c.if-either.branch [
-      then-either+else-high-low w ↦ inr w.if-high-low.false
-    | else-either w ↦ inl w.if-either.false
+      | then-either+else-high-low w ↦ inr w.if-high-low.false
+      | else-either w ↦ inl w.if-either.false
     ]) in
     record { value = told.0; to_after = told.1 }

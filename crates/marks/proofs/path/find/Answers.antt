@@ -57,10 +57,10 @@ loop-i-preserved c =
     let on : ℕ → ℕ = λ u. of.find ks xs u (drop (c.loop-i.i + 1) (read_bytes c.args.chars.now)) in
     c.loop-i.invariant
     ∙ elim c.if-digit-eq1.branch [
-      then-digit-eq1+else-below-ne2 w ↦ found_first _ ks xs _ _ more digit count c.if-below-eq0.false
-      w.if-digit-eq1.true w.if-below-ne2.false ∙ sym (ap on w.term-is)
-    | else-digit-eq1+else-digit-ne2 w ↦ found_last _ ks xs _ _ more digit count c.if-below-eq0.false
-      w.if-digit-eq1.false w.if-digit-ne2.false w.last_subterm-term.ensures ∙ sym (ap on w.term-is)
+      | then-digit-eq1+else-below-ne2 w ↦ found_first _ ks xs _ _ more digit count c.if-below-eq0.false
+          w.if-digit-eq1.true w.if-below-ne2.false ∙ sym (ap on w.term-is)
+      | else-digit-eq1+else-digit-ne2 w ↦ found_last _ ks xs _ _ more digit count c.if-below-eq0.false
+          w.if-digit-eq1.false w.if-digit-ne2.false w.last_subterm-term.ensures ∙ sym (ap on w.term-is)
     ]
 
 pub returns : goal.returns
