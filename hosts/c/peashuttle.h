@@ -27,20 +27,20 @@
 
    The stack that a call takes in the library at most, in bytes, its return address included, whatever it is lent:
 
-       peashuttle_list      2,078,160
-       peashuttle_play      1,574,096
-       peashuttle_step      1,573,952
-       peashuttle_offers      187,824
-       peashuttle_status      187,824
-       peashuttle_check        12,848
-       peashuttle_save            768
-       peashuttle_write           480
-       peashuttle_read            392
+       peashuttle_list      2,176,584
+       peashuttle_play      1,672,488
+       peashuttle_step      1,672,360
+       peashuttle_offers      187,840
+       peashuttle_status      187,840
+       peashuttle_check        12,816
+       peashuttle_save            640
+       peashuttle_write           432
+       peashuttle_read            400
        peashuttle_start            24
 
-   A thread of 2 MiB, PEASHUTTLE_STACK, has enough for each of them; peashuttle_list leaves its caller less than 20,000 bytes
-   of it. Runs that the library started and stepped take far less: about 1 MiB in peashuttle_list, and half of that in
-   peashuttle_step. */
+   Runs that the library started and stepped take far less: about 1 MiB in peashuttle_list, and half of that in
+   peashuttle_step. What peashuttle_list steps is always such a run, so a thread of 2 MiB, PEASHUTTLE_STACK, has enough for
+   each of them. */
 
 #ifndef PEASHUTTLE_H
 #define PEASHUTTLE_H

@@ -40,19 +40,19 @@
 //!
 //! | call | bytes |
 //! |---|---|
-//! | [`list`] | 2,078,160 |
-//! | [`Run::play`] | 1,574,096 |
-//! | [`Run::step`] | 1,573,952 |
-//! | [`Run::offers`], [`Run::status`] | 187,824 |
-//! | [`Table::check`] | 12,848 |
-//! | [`Run::save`] | 768 |
-//! | [`Track::write`] | 480 |
-//! | [`Track::read`] | 392 |
+//! | [`list`] | 2,176,584 |
+//! | [`Run::play`] | 1,672,488 |
+//! | [`Run::step`] | 1,672,360 |
+//! | [`Run::offers`], [`Run::status`] | 187,840 |
+//! | [`Table::check`] | 12,816 |
+//! | [`Run::save`] | 640 |
+//! | [`Track::write`] | 432 |
+//! | [`Track::read`] | 400 |
 //! | [`Run::start`] | 24 |
 //!
-//! A thread of [`STACK`] bytes, which is what `std::thread` gives, has enough for each of them; [`list`] leaves its caller less
-//! than 20,000 bytes of it. Runs that the library started and stepped take far less: about 1 MiB in [`list`], and half of
-//! that in [`Run::step`].
+//! Runs that the library started and stepped take far less: about 1 MiB in [`list`], and half of that in [`Run::step`]. What
+//! [`list`] steps is always such a run, so a thread of [`STACK`] bytes, which is what `std::thread` gives, has enough for each
+//! of them.
 
 #![no_std]
 #![deny(missing_docs)]
