@@ -62,10 +62,14 @@ def deepest(listing, name, **counts):
 
 
 def calls_of(root, crate):
-    """The names of what each function of a crate calls. Functions of two crates do not call each other."""
+    """The names of what each function of a crate calls there. Functions of two crates do not call each other, and tests stand last."""
     files = sources.files(root, f"{crate}/src/**/*.rt")
-    items = [item for file in files for item in sources.RattleFile(sources.text_of(root, file)).items.values()]
-    return {item.name: {path[-1] for path in item.cited} for item in items if item.kind == "fn"}
+    texts = [sources.text_of(root, file).partition("\n#[cfg(test)]\n")[0] for file in files]
+    items = [item for text in texts for item in sources.RattleFile(text).items.values()]
+    others = set(sources.crates(root)) - {crate}
+    return {
+        item.name: {path[-1] for path in item.cited if path[0] not in others} for item in items if item.kind == "fn"
+    }
 
 
 def reached(calls, names):
@@ -179,6 +183,26 @@ class Counts(unittest.TestCase):
 
 
 class Calls(MadeUp):
+    def test_a_function_of_another_crate(self):
+        root = self.tree("""\
+== a/src/lib.rt
+pub fn one() {
+    b::one();
+}
+== b/src/lib.rt
+pub fn one() {
+}
+
+#[cfg(test)]
+mod tests {
+    #[test]
+    fn calls_it() {
+        one();
+    }
+}
+""")
+        self.assertEqual(list(calling_themselves(root)), [])
+
     def test_functions_that_call_themselves(self):
         root = self.tree("""\
 == a/src/lib.rt
