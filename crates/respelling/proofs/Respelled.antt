@@ -21,6 +21,7 @@ use Rattle.rules.specs.Run.{State, start, Answer}
 use Rattle.rules.specs.Run as Run
 use Rattle.playing.specs.LineAnswer.{line_answer}
 use Rattle.listing.specs.Listing.{Played, goes_on, played, script_room, run_listing, table_listing, listing}
+use Rattle.respelling.specs.Listed.{ListsAlike}
 use Rattle.respelling.proofs.Cut.{table_respelled, script_respelled, table_shorter, script_shorter}
 
 -- tables whose lines say the same get the same answer
@@ -73,7 +74,8 @@ module _ (t : List ℕ) (table_fits : length (table_text t) ≤ text_room)
       )
       (ap (run_listing a.events) same)
 
-  -- the listing of an input is that of the input respelled
-  pub respelled_listing : listing (respelled t) ≡ listing t
-  unfolding listing
-  respelled_listing = rw table_same (script_same (judged (table_text t)))
+-- the listing of an input is that of the input respelled
+pub respelled_listing : (t : List ℕ) → ListsAlike t
+unfolding listing
+respelled_listing t table_fits script_fits =
+    rw (table_same t table_fits script_fits) (script_same t table_fits script_fits (judged (table_text t)))
