@@ -250,7 +250,7 @@ def settled_by(root, one, exported):
 def unsettled_functions(root):
     """Functions that other crates can call, and of which no law says that their promise settles the outcome.
 
-    Of one that takes a block the check reads off no plain fact; it promises what the function over the block's parts does.
+    One that takes a block promises what the function over the block's parts does, and the law is of that one.
     One that is exported by a static library promises what the function does that it hands all on to.
     """
     laws = "\n".join(sources.text_of(root, file) for file in sources.files(root, "outcomes/proofs/*.antt"))
