@@ -158,19 +158,9 @@ def prove(crate, command, lock):
     """Runs a command of rt in a crate's folder, which holds the lock as well, so that it stays alone where this process is killed."""
     crates = len(crates_of(crate))
     say(f"proving and building {crate}, {crates} crates; minutes where nothing is proved yet")
-    rt = subprocess.Popen(
-        ["rt", command],
-        cwd=REPOSITORY / "crates" / crate,
-        stdin=subprocess.DEVNULL,
-        stdout=subprocess.PIPE,
-        stderr=subprocess.STDOUT,
-        encoding="utf-8",
-        errors="surrogateescape",
-        pass_fds=[lock.fileno()],
-        start_new_session=True,
-    )
+    how = {"stdout": subprocess.PIPE, "stderr": subprocess.STDOUT, "encoding": "utf-8", "errors": "surrogateescape"}
     try:
-        with under_way(rt):
+        with under_way(["rt", command], cwd=REPOSITORY / "crates" / crate, pass_fds=[lock.fileno()], **how) as rt:
             printed = list(told_as_proved(rt.stdout, crates))
     except KeyboardInterrupt:
         say("interrupted; what is proved is kept")

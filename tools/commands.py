@@ -3,6 +3,7 @@
 import contextlib
 import os
 import signal
+import subprocess
 import time
 
 STOPPING = (signal.SIGINT, signal.SIGTERM, signal.SIGHUP)
@@ -31,11 +32,35 @@ def end(child):
 
 
 @contextlib.contextmanager
-def under_way(child):
-    """Waits at the block's end for that of a command; where the block is left by an exception it is ended."""
+def held_back():
+    """Lets what asks this process to stop wait for the block's end; what is ignored stays so."""
+    asked, before = [], {stopping: signal.getsignal(stopping) for stopping in STOPPING}
+    for stopping, handler in before.items():
+        if handler is not signal.SIG_IGN:
+            signal.signal(stopping, lambda number, _frame: asked.append(number))
     try:
+        yield
+    finally:
+        for stopping, handler in before.items():
+            signal.signal(stopping, handler)
+    if asked:
+        signal.raise_signal(asked[0])
+
+
+@contextlib.contextmanager
+def under_way(words, **how):
+    """A command, started as the leader of a process group; the block's end waits for that of the command.
+
+    Where the block is left by an exception the command is ended. An interrupt never comes between its start and the block:
+    what has started would go on, and none would know of it.
+    """
+    child = None
+    try:
+        with held_back():
+            child = subprocess.Popen(words, stdin=subprocess.DEVNULL, start_new_session=True, **how)
         yield child
         child.wait()
     except BaseException:
-        end(child)
+        if child:
+            end(child)
         raise

@@ -81,11 +81,10 @@ def started(words, **streams):
     At the block's end it has to have ended well.
     """
     try:
-        child = subprocess.Popen(words, cwd=REPOSITORY, stdin=subprocess.DEVNULL, start_new_session=True, **streams)
+        with under_way(words, cwd=REPOSITORY, **streams) as child:
+            yield child
     except OSError as error:
         raise Failed(f"{' '.join(words)}: {error}") from error
-    with under_way(child):
-        yield child
     if child.returncode != 0:
         raise Failed(f"{' '.join(words)}: status {child.returncode}")
 

@@ -158,6 +158,26 @@ class Units(unittest.TestCase):
             self.assertEqual((ended.stdout.splitlines()[-1], ended.returncode), (last, status))
 
 
+# an interrupt that comes while a command is being started, behind its fork
+INTERRUPTED_AT_ITS_START = """
+import os, signal, subprocess, sys
+from tools.commands import stop_as_by_an_interrupt, under_way
+
+class Popen(subprocess.Popen):
+    def __init__(self, *words, **how):
+        super().__init__(*words, **how)
+        os.kill(os.getpid(), signal.SIGINT)
+
+subprocess.Popen = Popen
+stop_as_by_an_interrupt()
+try:
+    with under_way(["/bin/sh", "-c", "/bin/sleep 60; echo survived"]):
+        print("the block", flush=True)
+except KeyboardInterrupt:
+    print("interrupted", flush=True)
+"""
+
+
 class Interrupts(Gate):
     # a shell's command that holds the pipe `alive` open for a minute; beside its shell it ignores an interrupt
     LASTING = f"(exec 3> alive; echo up; echo {PASSED}; /bin/sleep 60; echo survived)"
@@ -179,3 +199,9 @@ class Interrupts(Gate):
     def test_a_later_command_is_ended(self):
         outcome = self.interrupted(f"echo {PASSED}", later=f'cd "{self.folder}"; {self.LASTING}')
         self.assertEqual(outcome, ("FAILED: interrupted", 130, True))
+
+    def test_a_command_is_ended_that_is_just_being_started(self):
+        command = [sys.executable, "-B", "-c", INTERRUPTED_AT_ITS_START]
+        environment = {"PYTHONPATH": str(REPOSITORY)}
+        ended = subprocess.run(command, stdout=subprocess.PIPE, env=environment, text=True, check=False)
+        self.assertEqual((ended.stdout, ended.returncode), ("interrupted\n", 0))
