@@ -14,7 +14,8 @@ NUMBERS = ("u8", "u16", "u32", "u64", "usize", "bool")
 TOLD = 16  # so many numbers there is room for in an answer
 DECLARATION = re.compile(r"^pub (enum|struct) (\w+) \{\n(.*?)^\}", re.MULTILINE | re.DOTALL)
 SIGNATURE = r"^pub fn {}(?:<[^>]*>)?\((?P<takes>[^)]*)\)(?: -> (?P<answers>[^\n{{]*))?"
-FIELD = re.compile(r"(?:pub )?(\w+): ([^,\n]+)")
+FIELD = re.compile(r"(?:pub )?(\w+): ((?:[^,\n<]|<(?:[^<>]|<[^<>]*>)*>)+)")
+ONE_OF_STD = re.compile(r"(Option|Result)<(.*)>")
 VARIANT = re.compile(r"(\w+)(?:\(([^)]*)\)| \{([^}]*)\})?(?:,|$)")
 
 Door = namedtuple("Door", "crate name takes answers")  # takes: pairs of a name and a type; answers: a type or None
@@ -31,13 +32,30 @@ def fields_of(text):
 
 
 def variants_of(text):
-    """The variants of an enum; fields without a name are called by their place."""
+    """The variants of an enum; fields without a name are called by their place. What number one counts as is passed over."""
     found = []
-    for name, unnamed, named in VARIANT.findall(" ".join(text.split())):
+    for name, unnamed, named in VARIANT.findall(re.sub(r" = \d+", "", " ".join(text.split()))):
         kinds = [kind.strip() for kind in unnamed.split(",") if kind.strip()]
         numbered = [(f"of{place}", kind) for place, kind in enumerate(kinds)]
         found.append(Variant(name, fields_of(named) or numbered, bool(named)))
     return found
+
+
+def one_of_std(kind):
+    """An `Option` or a `Result` as an enum of no crate, by its own types; None where a type is neither."""
+    found = ONE_OF_STD.fullmatch(kind)
+    if not found:
+        return None
+    inner, depth, parts = found[2], 0, [""]
+    for letter in inner:
+        depth += {"<": 1, ">": -1}.get(letter, 0)
+        if letter == "," and depth == 0:
+            parts.append("")
+        else:
+            parts[-1] += letter
+    names = ("None", "Some") if found[1] == "Option" else ("Ok", "Err")
+    kinds = [None, *parts] if found[1] == "Option" else parts
+    return Enum(None, [Variant(name, [("of0", one.strip())] if one else [], False) for name, one in zip(names, kinds)])
 
 
 def types_of(root):
@@ -76,8 +94,10 @@ class Exporting:
         self.types, self.used, self.functions = types, set(), []
 
     def use(self, name):
-        """A declared type, brought in."""
-        declared = self.types[name]
+        """A declared type, brought in; an `Option` and a `Result` are std's."""
+        declared = one_of_std(name) or self.types[name]
+        if isinstance(declared, Enum) and declared.crate is None:
+            return declared
         crate = declared if isinstance(declared, str) else declared.crate
         self.used.add(f"{crate}::{name}")
         return declared
@@ -106,13 +126,15 @@ class Exporting:
             made = self.made_variant(kind, variant, [(field, value) for field, _, value in parts])
             last = number + 1 == len(declared.variants)
             lines.append(f"    {made}" if last else f"    if {name} == {number} {{\n        return {made};\n    }}")
-        maker = f"{name}_as_{kind.lower()}"
+        maker = f"{name}_as_{re.sub(r'[^a-z]+', '_', kind.lower()).strip('_')}"
         told = ", ".join(f"{one}: {of}" for one, of in params)
         self.functions.append(f"fn {maker}({told}) -> {kind} {{\n" + "\n".join(lines) + "\n}\n")
         return params, f"{maker}({', '.join(one for one, _ in params)})"
 
     @staticmethod
     def made_variant(kind, variant, values):
+        if ONE_OF_STD.fullmatch(kind):
+            return f"{variant.name}({', '.join(value for _, value in values)})" if values else variant.name
         if not values:
             return f"{kind}::{variant.name}"
         if variant.named:
@@ -122,6 +144,8 @@ class Exporting:
     def tell(self, value, kind, at, depth=1):
         """The lines that write a value as numbers from place `at` of the lent array on, and the place behind them."""
         edge = "    " * depth
+        if kind == "()":
+            return [], at
         if kind in NUMBERS:
             if kind == "bool":
                 return [f"{edge}if {value} {{", f"{edge}    told[{at}] = 1;", f"{edge}}}"], at + 1

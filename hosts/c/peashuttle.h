@@ -27,15 +27,15 @@
 
    The stack that a call takes in the library at most, in bytes, its return address included, whatever it is lent:
 
-       peashuttle_list      2,176,584
-       peashuttle_play      1,672,488
-       peashuttle_step      1,672,360
-       peashuttle_offers      187,840
-       peashuttle_status      187,840
-       peashuttle_check        12,816
+       peashuttle_list      2,143,808
+       peashuttle_play      1,639,728
+       peashuttle_step      1,639,600
+       peashuttle_offers      206,352
+       peashuttle_status      206,352
+       peashuttle_check        12,776
        peashuttle_save            640
        peashuttle_write           432
-       peashuttle_read            400
+       peashuttle_read            328
        peashuttle_start            24
 
    Runs that the library started and stepped take far less: about 1 MiB in peashuttle_list, and half of that in

@@ -20,6 +20,7 @@ FROM_SOURCES = {  # what the header and the crate call a constant, and what the 
     "TABLE_ROOM": "TABLE_TEXT_ROOM", "SCRIPT_ROOM": "SCRIPT_TEXT_ROOM", "SAVED_ROOM": "SAVE_ROOM",
     "DEFINITIONS": "DEFINITION_ROOM", "EVENTS": "EVENT_ROOM", "TERMS": "TERM_ROOM", "DIGITS": "DIGIT_ROOM",
     "CELLS": "CELL_ROOM", "NODES": "NODE_ROOM", "ARCS": "ARC_ROOM", "MEETINGS": "MEETING_ROOM", "COLUMN_WORDS": "REFERENCES",
+    "NO_LINE": "NOT_A_LINE",
 }
 LENGTHS = {"HEAD_WORDS": "Head", "COUNTER_WORDS": "Counters"}  # of arrays that the sources give by a number
 OWN = {"ALIGNMENT", "STACK", "NO_BLOCK", "H"}  # of the header and the crate alone
@@ -50,6 +51,13 @@ def constants_in(text):
     return [(name, number_in(value)) for name, value in re.findall(CONSTANT, text, re.MULTILINE)]
 
 
+def refusals_in(text):
+    """The variants of the enum of refusals, by names like those of constants, which count up from the first."""
+    body = re.search(r"^pub enum Refusal \{\n(    \w+ = 1,\n.*?)^\}", text, re.MULTILINE | re.DOTALL)
+    names = re.findall(r"^    (\w+)(?: = 1)?,$", body[1], re.MULTILINE) if body else []
+    return [(re.sub(r"(?<!^)(?=[A-Z])", "_", name).upper(), number) for number, name in enumerate(names, 1)]
+
+
 @functools.cache
 def texts_of(pattern):
     return [sources.text_of(ROOT, file) for file in sources.files(ROOT, pattern)]
@@ -59,7 +67,8 @@ def texts_of(pattern):
 def in_sources(name):
     """The value of a constant of the crates."""
     wanted = FROM_SOURCES.get(name, name)
-    (value,) = {value for text in texts_of("*/src/**/*.rt") for found, value in constants_in(text) if found == wanted}
+    texts = texts_of("*/src/**/*.rt")
+    (value,) = {value for text in texts for found, value in constants_in(text) + refusals_in(text) if found == wanted}
     return value
 
 

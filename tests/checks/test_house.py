@@ -252,6 +252,7 @@ def unsettled_functions(root):
 
     One that takes a block promises what the function over the block's parts does, and the law is of that one.
     One that is exported by a static library promises what the function does that it hands all on to.
+    The law of one over a type parameter is of every type, which its statement takes first.
     """
     laws = "\n".join(sources.text_of(root, file) for file in sources.files(root, "outcomes/proofs/*.antt"))
     exported = {(one.crate, one.name): one for one in exported_functions(root)}
@@ -260,7 +261,7 @@ def unsettled_functions(root):
             continue
         crate, name = settled_by(root, one, exported)
         law = f"{crate}_{name}_settled"
-        if not re.search(rf"^pub {re.escape(law)} : Settles\s", laws, re.MULTILINE):
+        if not re.search(rf"^pub {re.escape(law)} : (?:(?:\([^()]*\)\s+)+→ )?Settles\s", laws, re.MULTILINE):
             yield f"{one.crate}::{one.name}: no law {law}"
 
 
@@ -544,6 +545,17 @@ pub walks_walk_settled : Settles walk.Learnt (λ κ x s. x)
 == outcomes/proofs/Inner.antt
 pub walks_wide_settled : Settles
     wide.Learnt (λ κ x s. x)
+""")
+        self.assertEqual([fault.split(": ")[0] for fault in unsettled_functions(root)], ["walks::link"])
+
+    def test_settled_for_every_type(self):
+        root = self.tree(self.CRATES + """\
+== outcomes/proofs/Doors.antt
+pub walks_walk_settled : (T : RattleType) (l : Laws T)
+    → Settles (walk.Learnt T l) (λ κ x s. x)
+pub walks_link_settled : (T : RattleType) → Same T
+== outcomes/proofs/Inner.antt
+pub walks_wide_settled : Settles wide.Learnt (λ κ x s. x)
 """)
         self.assertEqual([fault.split(": ")[0] for fault in unsettled_functions(root)], ["walks::link"])
 

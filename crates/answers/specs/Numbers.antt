@@ -1,19 +1,21 @@
 -- What a host is told, as numbers. Each enum that a door answers has here the number of each of its values.
-use Rattle.std.specs.Prelude.{ℕ, ◌+◌, Bool, true, false}
+use Rattle.std.specs.Prelude.{ℕ, ◌+◌, Bool, true, false, Result, Ok, Err}
+use Rattle.lines.specs.declared.RefusedAt.{RefusedAt}
+use Rattle.lines.specs.Refusal.{number}
 use Rattle.rules.specs.declared.Event.{Event}
 use Rattle.rules.specs.declared.Event.TheVariants.{Tau as τ, Tick as ✓, Visible as visible}
 use Rattle.rules.specs.declared.Status.{Status}
 use Rattle.rules.specs.declared.Status.TheVariants.{Live as live, Ended as ended, Stuck as stuck}
-use Rattle.runs.specs.declared.Answer.{Answer}
-use Rattle.runs.specs.declared.Answer.TheVariants as Step
-use Rattle.playing.specs.declared.Played.{Played}
-use Rattle.playing.specs.declared.Played.TheVariants as Line
-use Rattle.tables.specs.declared.Checked.{Checked}
-use Rattle.tables.specs.declared.Checked.TheVariants as Table
-use Rattle.reading.specs.declared.Read.{Read}
-use Rattle.reading.specs.declared.Read.TheVariants as Track
-use Rattle.writing.specs.declared.Saved.{Saved}
-use Rattle.writing.specs.declared.Saved.TheVariants as Text
+use Rattle.runs.specs.Answer.{Answer}
+use Rattle.runs.specs.Answer as Step
+use Rattle.playing.specs.Played.{Played}
+use Rattle.playing.specs.Played as Line
+use Rattle.tables.specs.Checked.{Checked}
+use Rattle.tables.specs.Checked as Table
+use Rattle.reading.specs.Answers.{Read}
+use Rattle.reading.specs.Answers as Track
+use Rattle.writing.specs.Answers.{Saved}
+use Rattle.writing.specs.Answers as Text
 
 -- what was asked for has been done
 abbrev pub done : ℕ
@@ -67,6 +69,16 @@ of_checked (Table.Refused n line) = of_refusal n
 unfoldable pub line_of_checked : Checked → ℕ
 line_of_checked (Table.Accepted counts) = 0
 line_of_checked (Table.Refused n line) = line
+
+-- a text that was judged: accepted, or its refusal
+unfoldable pub of_judged : {A : Type 0} → Result A RefusedAt → ℕ
+of_judged (Ok a) = done
+of_judged (Err r) = of_refusal (number r.refusal)
+
+-- the line of its refusal, 0 where there is none
+unfoldable pub line_of : {A : Type 0} → Result A RefusedAt → ℕ
+line_of (Ok a) = 0
+line_of (Err r) = r.line
 
 unfoldable pub of_read : Read → ℕ
 of_read (Track.Accepted counts) = done

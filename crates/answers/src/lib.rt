@@ -5,17 +5,17 @@
 #![tactic(auto)]
 
 ghost use Rattle.std.specs.Prelude.{◌≡◌};
+ghost use Rattle.runs.specs.Answer.{answer_told};
+ghost use Rattle.playing.specs.Played.{played_told};
+ghost use Rattle.writing.specs.Answers.{saved_told};
 ghost use Rattle.answers.specs.Numbers as told;
 ghost use Rattle.answers.specs.words.Blocks as blocks;
 
-use lines::SLICE_TOO_SHORT;
+use lines::{Refusal, RefusedAt};
 use offering::Offered;
-use playing::Played;
-use reading::Read;
+use playing::PlayedStep;
 use rules::{Event, Status};
-use runs::Answer;
-use tables::Checked;
-use writing::Saved;
+use writing::TooShort;
 
 // What was asked for has been done.
 pub const DONE: u32 = 0;
@@ -42,6 +42,7 @@ pub const NO_TRACK: u32 = 0x3_0003;
 
 // The head of a table's or a track's block: its stamp and three counts, of definitions, events and terms, or of nodes, arcs
 // and meetings.
+// An array, as C has it.
 pub type Head = [usize; 4];
 
 // 0 τ, 1 ✓, 2 + e event e.
@@ -51,7 +52,7 @@ pub fn of_event(event: Event) -> u32
     match event {
         Event::Tau => 0,
         Event::Tick => 1,
-        Event::Visible(e) => 2 + wide(e),
+        Event::Visible(e) => 2 + u32::from(e),
     }
 }
 
@@ -70,115 +71,94 @@ pub fn of_status(status: Status) -> u32
 pub fn of_offers(offered: Offered) -> u32
     ensures { result ≡ told.of_offers offered.tau offered.tick }
 {
-    if offered.tau {
-        return if offered.tick { 3 } else { 1 };
+    match (offered.tau, offered.tick) {
+        (true, true) => 3,
+        (true, false) => 1,
+        (false, true) => 2,
+        (false, false) => 0,
     }
-    if offered.tick { 2 } else { 0 }
 }
 
-// A refusal, by document 01's number.
+// A refusal, by document 01's number: whatever number it is given, since the enum would ask more of callers.
 pub fn of_refusal(number: u8) -> u32
     ensures { result ≡ told.of_refusal number }
 {
-    REFUSED + wide(number)
+    REFUSED + u32::from(number)
 }
 
 // A step's event, or its refusal.
-pub fn of_step(answer: Answer) -> u32
-    ensures { result ≡ told.of_step answer }
+pub fn of_step(answer: Result<Event, Refusal>) -> u32
+    ensures { result ≡ told.of_step (answer_told answer) }
 {
     match answer {
-        Answer::Accepted(shown) => {
-            let event = shown.event;
-            of_event(event)
-        }
-        Answer::Refused(number) => of_refusal(number),
+        Ok(event) => of_event(event),
+        Err(refusal) => of_refusal(refusal.number()),
     }
 }
 
 // A script's line: its step's event, its refusal, or that there is none.
-pub fn of_played(played: Played) -> u32
-    ensures { result ≡ told.of_played played }
+pub fn of_played(played: Result<Option<PlayedStep>, Refusal>) -> u32
+    ensures { result ≡ told.of_played (played_told played) }
 {
     match played {
-        Played::Stepped { event, next: _ } => of_event(event),
-        Played::Refused(number) => of_refusal(number),
-        Played::End => END,
+        Ok(Some(step)) => of_event(step.event),
+        Ok(None) => END,
+        Err(refusal) => of_refusal(refusal.number()),
     }
 }
 
 // Where a script goes on: behind a line that was stepped, and else where it stood.
-pub fn cursor_behind(played: Played, at: usize) -> usize
-    ensures { result ≡ told.cursor_behind at played }
+pub fn cursor_behind(played: Result<Option<PlayedStep>, Refusal>, at: usize) -> usize
+    ensures { result ≡ told.cursor_behind at (played_told played) }
 {
     match played {
-        Played::Stepped { event: _, next } => next,
-        Played::Refused(_) => at,
-        Played::End => at,
+        Ok(Some(step)) => step.next,
+        Ok(None) => at,
+        Err(_) => at,
     }
 }
 
-// Whether a table's text was accepted, or its refusal.
-pub fn of_checked(checked: Checked) -> u32
-    ensures { result ≡ told.of_checked checked }
+// Whether a text was accepted, or its refusal.
+pub fn of_judged<T: Copy>(judged: Result<T, RefusedAt>) -> u32
+    ensures { result ≡ told.of_judged judged }
 {
-    match checked {
-        Checked::Accepted(_) => DONE,
-        Checked::Refused { number, line: _ } => of_refusal(number),
+    match judged {
+        Ok(_) => DONE,
+        Err(refused) => of_refusal(refused.refusal.number()),
     }
 }
 
-// The line of a table's refusal, 0 where there is none.
-pub fn line_of_checked(checked: Checked) -> usize
-    ensures { result ≡ told.line_of_checked checked }
+// The line of a text's refusal, 0 where there is none.
+pub fn line_of<T: Copy>(judged: Result<T, RefusedAt>) -> usize
+    ensures { result ≡ told.line_of judged }
 {
-    match checked {
-        Checked::Accepted(_) => 0,
-        Checked::Refused { number: _, line } => line,
-    }
-}
-
-// Whether a saved text was accepted, or its refusal.
-pub fn of_read(read: Read) -> u32
-    ensures { result ≡ told.of_read read }
-{
-    match read {
-        Read::Accepted(_) => DONE,
-        Read::Refused { number, line: _ } => of_refusal(number),
-    }
-}
-
-// The line of a saved text's refusal, 0 where there is none.
-pub fn line_of_read(read: Read) -> usize
-    ensures { result ≡ told.line_of_read read }
-{
-    match read {
-        Read::Accepted(_) => 0,
-        Read::Refused { number: _, line } => line,
+    match judged {
+        Ok(_) => 0,
+        Err(refused) => refused.line,
     }
 }
 
 // Whether a track was written, or the refusal of a slice that is too short for it.
-pub fn of_saved(saved: Saved) -> u32
-    ensures { result ≡ told.of_saved saved }
+pub fn of_saved(saved: Result<usize, TooShort>) -> u32
+    ensures { result ≡ told.of_saved (saved_told saved) }
 {
     match saved {
-        Saved::Written(_) => DONE,
-        Saved::Short(_) => of_refusal(SLICE_TOO_SHORT),
+        Ok(_) => DONE,
+        Err(_) => of_refusal(Refusal::SliceTooShort.number()),
     }
 }
 
 // How long a track's text is, written or not.
-pub fn length_of(saved: Saved) -> usize
-    ensures { result ≡ told.length_of saved }
+pub fn length_of(saved: Result<usize, TooShort>) -> usize
+    ensures { result ≡ told.length_of (saved_told saved) }
 {
     match saved {
-        Saved::Written(length) => length,
-        Saved::Short(length) => length,
+        Ok(length) => length,
+        Err(short) => short.length,
     }
 }
 
-// 0 where a table's and a run's block are filled, else the number of the one that is not.
+// 0 where a table's and a run's block are filled, else the number of the one that is not: a number, as C is told it.
 pub fn unready(table: usize, run: usize) -> u32
     ensures { result ≡ blocks.unready table run }
 {
@@ -189,10 +169,4 @@ pub fn unready(table: usize, run: usize) -> u32
         return NO_RUN;
     }
     DONE
-}
-
-fn wide(byte: u8) -> u32
-    ensures { result ≡ byte }
-{
-    byte as u32
 }

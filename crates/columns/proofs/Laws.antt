@@ -1,12 +1,7 @@
 -- What a column has at a number: its word in range, and 0 out of it. Assumes nothing.
-use Prim.Native.Nat.{ℕ, ◌≤◌, ◌<◌}
-use mathlib.Core.Path.{◌≡◌, refl, sym}
-use mathlib.Core.Bool.{Bool, true, false}
-use mathlib.Core.List.{List}
-use native.Mathlib.Omega.{arith}
-use lib.ListN.{length, get_or, get_or-eq_default}
-use lib.Dec.{ltb}
-use borrow.Author.Tests.{lt-ltb, le-ltb, ltb-false}
+use Rattle.std.proofs.Common.{◌≡◌, refl, sym, ℕ, ◌≤◌, ◌<◌, Bool, true, false, List, length, get_or, ltb, arith}
+use Rattle.std.proofs.Common.{lt-ltb, le-ltb, ltb-false}
+use Rattle.std.proofs.lemmas.List.{get_or_past}
 use Rattle.lines.specs.Line.{choose}
 use Rattle.columns.specs.words.Columns.{look}
 
@@ -26,4 +21,4 @@ module _ (n : ℕ) (xs : List ℕ) (i : ℕ) where
     where
       go : (b : Bool) → ltb i n ≡ b → choose b (get_or xs i 0) 0 ≡ get_or xs i 0
       go true h = refl
-      go false h = sym (get_or-eq_default xs 0 (omega (arith, ltb-false i n h)))
+      go false h = sym (get_or_past xs i 0 (omega (arith, ltb-false i n h)))

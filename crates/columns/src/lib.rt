@@ -9,6 +9,7 @@ use frames::{DEFINITION_ROOM, TERM_ROOM};
 
 // A column for each thing that is known of a term, by its number in preorder over the whole table: its kind, its payload, the
 // definition that it stands in, and the term behind it and its subterms; and one for the definitions' roots.
+// Arrays of a table's room: memory is fixed here, and no heap is asked for any.
 pub type Kinds = [u8; TERM_ROOM];
 
 pub type Payloads = [u64; TERM_ROOM];
@@ -23,55 +24,45 @@ pub type Roots = [u16; DEFINITION_ROOM];
 pub fn kind_of(n: usize, kinds: &Kinds) -> u8
     ensures { result ≡ look term_room kinds.now n }
 {
-    if n < TERM_ROOM { kinds[n] } else { 0 }
+    kinds.get(n).copied().unwrap_or(0)
 }
 
 // The payload of a term: a call's definition, a prefix's event, a parallel's set.
 pub fn payload_of(n: usize, payloads: &Payloads) -> u64
     ensures { result ≡ look term_room payloads.now n }
 {
-    if n < TERM_ROOM { payloads[n] } else { 0 }
+    payloads.get(n).copied().unwrap_or(0)
 }
 
 // The definition that a term stands in.
 pub fn owner_of(n: usize, owners: &Owners) -> u8
     ensures { result ≡ look term_room owners.now n }
 {
-    if n < TERM_ROOM { owners[n] } else { 0 }
+    owners.get(n).copied().unwrap_or(0)
 }
 
 // The number of the term behind a term and its subterms, as a number and as its word.
 pub fn after_of(n: usize, after: &After) -> usize
     ensures { result ≡ look term_room after.now n }
 {
-    wide(after_word(n, after))
+    usize::from(after_word(n, after))
 }
 
 pub fn after_word(n: usize, after: &After) -> u16
     ensures { result ≡ look term_room after.now n }
 {
-    if n < TERM_ROOM { after[n] } else { 0 }
+    after.get(n).copied().unwrap_or(0)
 }
 
 // The number of a definition's root, as a number and as its word.
 pub fn root_of(definition: usize, roots: &Roots) -> usize
     ensures { result ≡ look definition_room roots.now definition }
 {
-    wide(root_word(definition, roots))
+    usize::from(root_word(definition, roots))
 }
 
 pub fn root_word(definition: usize, roots: &Roots) -> u16
     ensures { result ≡ look definition_room roots.now definition }
 {
-    if definition < DEFINITION_ROOM {
-        roots[definition]
-    } else {
-        0
-    }
-}
-
-pub fn wide(x: u16) -> usize
-    ensures { result ≡ x }
-{
-    x as usize
+    roots.get(definition).copied().unwrap_or(0)
 }

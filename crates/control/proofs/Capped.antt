@@ -1,12 +1,7 @@
 -- Counts that stop at 65,535 add up and multiply as what they count does: a count is the lesser of the two, and
 -- past the most a sum, and a product with a factor that is not 0, stay there. Assumes nothing.
-use Prim.Native.Nat.{ℕ, zero, suc, ◌+◌, ◌*◌, ◌≤◌, ◌<◌, min}
-use mathlib.Core.Path.{◌≡◌, refl}
-use mathlib.Core.Bool.{Bool, true, false}
-use native.Mathlib.Omega.{arith}
-use native.Mathlib.Nat.{mul-le-mul, mul-zero, mul_comm}
-use lib.Dec.{ltb}
-use borrow.Author.Tests.{ltb-true, ltb-false}
+use Rattle.std.proofs.Common.{ℕ, zero, suc, ◌+◌, ◌*◌, ◌≤◌, ◌<◌, min, ◌≡◌, refl, Bool, true, false, arith}
+use Rattle.std.proofs.Common.{mul-le-mul, mul-zero, mul_comm, ltb, ltb-true, ltb-false}
 use Rattle.lines.specs.Line.{choose}
 use Rattle.control.specs.words.Sums.{capped}
 

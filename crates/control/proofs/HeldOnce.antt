@@ -2,12 +2,9 @@
 -- is unwound to its core: what stands at the reference itself, inside sequences whose numbers the words tell. Of two cores
 -- the state word tells one form, the plan one untouched term, and the words of a split's sides whether they have stepped and
 -- where they stand; sides have fewer cells than their split. Then the sequences around agree one by one. Assumes nothing.
-use Prim.Native.Nat.{ℕ, zero, suc, ◌+◌, ◌≤◌, ◌<◌}
-use mathlib.Core.Path.{◌≡◌, refl, sym, ap, ap₂, subst, ◌∙◌}
-use mathlib.Core.Bool.{true, false}
-use mathlib.Core.List.{List, [], ◌∷◌}
+use Rattle.std.proofs.Common.{ℕ, zero, suc, ◌+◌, ◌≤◌, ◌<◌, ◌≡◌, refl, sym, ap, ap₂, subst, ◌∙◌, true, false}
+use Rattle.std.proofs.Common.{List, [], ◌∷◌, arith}
 use mathlib.Core.Option.{Option, none, some}
-use native.Mathlib.Omega.{arith}
 use Rattle.terms.specs.Term.{Term}
 use Rattle.places.specs.Place.{Place}
 use Rattle.rules.specs.Process.{Split, choice, together, Process, leaf, prefix, internal, split, sequence, Ω, ⊥', cells}

@@ -1,9 +1,5 @@
 -- What a word is where it is in range and where it is not. Assumes nothing.
-use Prim.Native.Nat.{ℕ, ◌+◌, ◌*◌, ◌%◌, ◌≤◌, ◌<◌}
-use mathlib.Core.Path.{◌≡◌}
-use mathlib.Core.List.{List}
-use lib.ListN.{get_or, set}
-use borrow.Author.Tests.{lt-ltb, le-ltb}
+use Rattle.std.proofs.Common.{ℕ, ◌+◌, ◌*◌, ◌%◌, ◌≤◌, ◌<◌, ◌≡◌, List, get_or, set, lt-ltb, le-ltb}
 use Rattle.control.specs.words.Words.{reference_room, track_words, node, put, track_word, put_track}
 
 module _ (k : ℕ) (w : List ℕ) (n : ℕ) where
@@ -27,10 +23,6 @@ module _ (w : List ℕ) (i : ℕ) where
   pub track_in : i < track_words → get_or w i 0 ≡ track_word w i
   unfolding track_word
   track_in h = simp (lt-ltb i track_words h)
-
-  pub track_out : track_words ≤ i → 0 ≡ track_word w i
-  unfolding track_word
-  track_out h = simp (le-ltb i track_words h)
 
   pub put_track_in : (v : ℕ) → i < track_words → set w i (v % 65536) ≡ put_track w i v
   unfolding put_track

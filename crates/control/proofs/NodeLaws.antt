@@ -1,16 +1,9 @@
 -- What the words of the references are after one is put: that word is the value, and every other word of every
 -- reference is as before. Word i of reference n is number 8n + i of the list, so that no two words share one.
 -- Assumes nothing.
-use Prim.Native.Nat.{ℕ, ◌+◌, ◌*◌, ◌%◌, ◌<◌}
-use mathlib.Core.Path.{◌≡◌, refl, ◌∙◌}
-use mathlib.Core.Bool.{Bool, true, false}
-use mathlib.Core.List.{List}
-use native.Mathlib.Nat.{mod-eq_of_lt}
-use native.Mathlib.Omega.{arith}
-use lib.ListN.{get_or, set, length, length-set}
-use lib.Seq.{get_or-set_same, get_or-set_other}
-use lib.Dec.{ltb}
-use borrow.Author.Tests.{lt-ltb}
+use Rattle.std.proofs.Common.{ℕ, ◌+◌, ◌*◌, ◌%◌, ◌<◌, ◌≡◌, refl, ◌∙◌, Bool, true, false, List, mod-eq_of_lt}
+use Rattle.std.proofs.Common.{arith, get_or, set, length, length-set, get_or-set_same, get_or-set_other}
+use Rattle.std.proofs.Common.{ltb, lt-ltb}
 use Rattle.lines.specs.Line.{choose}
 use Rattle.control.specs.words.Words.{reference_room, node, put}
 

@@ -1,11 +1,8 @@
 -- A plan holds one term at a number, where its table has every definition that the term calls. The kind tells a term's form
 -- and operator, the sets tell a parallel's, and a call's operand is the root of the definition whose place stands there. By
 -- induction over both terms. Assumes nothing.
-use Prim.Native.Nat.{ℕ, suc}
-use mathlib.Core.Path.{◌≡◌, refl, sym, ap, subst, ◌∙◌}
-use mathlib.Core.List.{List}
+use Rattle.std.proofs.Common.{ℕ, suc, ◌≡◌, refl, sym, ap, subst, ◌∙◌, List, arith}
 use mathlib.Core.Option.{Option, none, some}
-use native.Mathlib.Omega.{arith}
 use lib.ListN.{get_elem?}
 use Rattle.kinds.specs.Kind.{subterms}
 use Rattle.terms.specs.Term.{Leaf, call, SKIP, STOP, Operator, internal, external, sequence, parallel, Term}

@@ -7,8 +7,6 @@ ghost use Rattle.std.specs.Prelude.{◌≡◌, ◌<◌, ◌+◌, ◌*◌, ◌-�
 ghost use Rattle.control.specs.words.Words as words;
 ghost use Rattle.control.specs.words.Sums.{capped};
 
-use columns::wide;
-
 // References of a run: one more than its arcs.
 pub const REFERENCES: usize = 8193;
 
@@ -25,6 +23,7 @@ pub const MEETINGS_FROM: usize = 16384;
 pub const EVENT_NODES_FROM: usize = 24576;
 
 // What a run is lent: its nodes, its track and its counters.
+// Arrays of a run's rooms, with no heap.
 pub type Nodes = [u16; NODE_WORDS];
 
 pub type Track = [u16; TRACK_WORDS];
@@ -64,8 +63,9 @@ pub fn word(n: usize, k: usize, nodes: &Nodes) -> usize
     requires { k < 8 }
     ensures { result ≡ words.node k nodes.now n }
 {
+    // Past the last reference 8 * n could overflow, so it is tested, here and in `put`.
     if n < REFERENCES {
-        wide(nodes[8 * n + k])
+        usize::from(nodes[8 * n + k])
     } else {
         0
     }
@@ -85,13 +85,14 @@ pub fn put(n: usize, k: usize, value: usize, nodes: &mut Nodes)
 pub fn track_word(i: usize, track: &Track) -> usize
     ensures { result ≡ words.track_word track.now i }
 {
-    if i < TRACK_WORDS { wide(track[i]) } else { 0 }
+    usize::from(track.get(i).copied().unwrap_or(0))
 }
 
 // Puts word i of a track.
 pub fn put_track(i: usize, value: usize, track: &mut Track)
     ensures { track.new ≡ words.put_track track.old i value }
 {
+    // By `get_mut` the proof does not close: it tells nothing of the words once its borrow is over.
     if i < TRACK_WORDS {
         track[i] = (value % 65536) as u16;
     }
@@ -102,38 +103,18 @@ const MOST_COUNT: usize = 65535;
 pub fn sum(a: usize, b: usize) -> usize
     ensures { result ≡ capped (a + b) }
 {
-    if MOST_COUNT < a {
-        return MOST_COUNT;
-    }
-    if MOST_COUNT < b {
-        return MOST_COUNT;
-    }
-    let s = a + b;
-    if MOST_COUNT < s { MOST_COUNT } else { s }
+    a.saturating_add(b).min(MOST_COUNT)
 }
 
 pub fn product(a: usize, b: usize) -> usize
     ensures { result ≡ capped (a * b) }
 {
-    if a == 0 {
-        return 0;
-    }
-    if b == 0 {
-        return 0;
-    }
-    if MOST_COUNT < a {
-        return MOST_COUNT;
-    }
-    if MOST_COUNT < b {
-        return MOST_COUNT;
-    }
-    let p = a * b;
-    if MOST_COUNT < p { MOST_COUNT } else { p }
+    a.saturating_mul(b).min(MOST_COUNT)
 }
 
 // What is left of a, 0 where b is more.
 pub fn less(a: usize, b: usize) -> usize
     ensures { result ≡ a - b }
 {
-    if a < b { 0 } else { a - b }
+    a.saturating_sub(b)
 }

@@ -1,11 +1,6 @@
 -- What the counters come to, and which room a step passes first, by what the tests found: each law takes what
 -- the calls on the way promise. Assumes nothing.
-use Prim.Native.Nat.{ℕ, ◌+◌, ◌<◌, ◌≤◌}
-use mathlib.Core.Path.{◌≡◌}
-use mathlib.Core.Bool.{true, false}
-use mathlib.Core.List.{List, [], ◌∷◌}
-use lib.Dec.{ltb}
-use borrow.Author.Tests.{lt-ltb, le-ltb}
+use Rattle.std.proofs.Common.{ℕ, ◌+◌, ◌<◌, ◌≤◌, ◌≡◌, true, false, List, [], ◌∷◌, ltb, lt-ltb, le-ltb}
 use Rattle.rules.specs.Run.{cell_room, node_room, arc_room, meeting_room}
 use Rattle.control.specs.words.Sums.{capped}
 use Rattle.weights.specs.declared.Weight.{Weight}

@@ -2,13 +2,13 @@
 #![tactic(auto)]
 
 ghost use Rattle.std.specs.Prelude.{◌≡◌, ◌<◌};
+ghost use Rattle.lines.specs.Refusal.{told};
 ghost use Rattle.counting.specs.code.Counting as spec;
 
-use columns::wide;
 use control::{Counters, sum};
 use drawing::Tally;
 use leaves::Taken;
-use lines::{ARCS_OVER_ROOM, CELLS_OVER_ROOM, MEETINGS_OVER_ROOM, NODES_OVER_ROOM};
+use lines::Refusal;
 use rules::{ARC_ROOM, CELL_ROOM, MEETING_ROOM, NODE_ROOM};
 use weights::Weight;
 
@@ -30,26 +30,26 @@ pub fn counter(k: usize, counters: &Counters) -> usize
     requires { k < 8 }
     ensures { result ≡ spec.counter k counters.now }
 {
-    wide(counters[k])
+    usize::from(counters[k])
 }
 
-// The lowest number of the rooms that a step would pass, 0 where it passes none.
-pub fn over_room(w: Weight, counters: &Counters) -> u8
-    ensures { result ≡ spec.over_room w counters.now }
+// Whether a step fits the rooms; else the refusal of the first that it would pass.
+pub fn over_room(w: Weight, counters: &Counters) -> Result<(), Refusal>
+    ensures { told result ≡ spec.over_room w counters.now }
 {
     if CELL_ROOM < w.size {
-        return CELLS_OVER_ROOM;
+        return Err(Refusal::CellsOverRoom);
     }
     if NODE_ROOM < sum(counter(NODES, counters), w.nodes) {
-        return NODES_OVER_ROOM;
+        return Err(Refusal::NodesOverRoom);
     }
     if ARC_ROOM < sum(counter(ARCS, counters), w.arcs) {
-        return ARCS_OVER_ROOM;
+        return Err(Refusal::ArcsOverRoom);
     }
     if MEETING_ROOM < sum(counter(MEETINGS, counters), w.meetings) {
-        return MEETINGS_OVER_ROOM;
+        return Err(Refusal::MeetingsOverRoom);
     }
-    0
+    Ok(())
 }
 
 // How far a run has come, before a step.

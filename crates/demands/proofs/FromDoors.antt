@@ -10,8 +10,9 @@ use borrow.Fn.Kinds.{Dens, ended_of, res_t}
 use Rattle.columns.specs.words.Columns.{Columns, all_columns, read_columns, with_owners}
 use Rattle.tables.specs.Table.{judged}
 use Rattle.tables.specs.words.Columns.{Outcome}
-use Rattle.tables.specs.declared.Checked.{Checked}
-use Rattle.tables.specs.declared.Checked.TheVariants.{Accepted}
+use Rattle.std.specs.Prelude.{Result, Ok}
+use Rattle.lines.specs.declared.RefusedAt.{RefusedAt}
+use Rattle.tables.specs.Checked.{checked_told}
 use Rattle.tables.specs.declared.TableCounts.{TableCounts}
 use Rattle.tables.proofs.check.Kinds as checking
 use Rattle.tables.proofs.check.Reads as check
@@ -23,7 +24,7 @@ use Rattle.plans.proofs.lay_out.Reads as lay-out
 use Rattle.demands.specs.words.Laid.{CheckedAndLaid}
 
 -- a call of the check: what it was lent, its answer, and what was lent as it is afterwards
-module _ (κ : Lfts 6) (lent : Dens κ checking.ps) (c : Checked) (left : AtExit (ended_of 6 checking.ps checking.r) κ) where
+module _ (κ : Lfts 6) (lent : Dens κ checking.ps) (c : Result TableCounts RefusedAt) (left : AtExit (ended_of 6 checking.ps checking.r) κ) where
   -- the text that was judged, and the columns that the check has left
   abbrev text_judged : List ℕ
   text_judged = let (text, _) = lent in text.now
@@ -50,11 +51,12 @@ module _ (κ : Lfts 6) (lent : Dens κ checking.ps) (c : Checked) (left : AtExit
 
     -- where both doors have kept their promises, the check has accepted the text, and the layout was lent what the check has
     -- told and left, a caller has the table
-    pub from_doors : check.Learnt κ lent c left → lay-out.Learnt κ' lent' u left' → (n : TableCounts) → c ≡ Accepted n
+    pub from_doors : check.Learnt κ lent c left → lay-out.Learnt κ' lent' u left' → (n : TableCounts) → c ≡ Ok n
         → terms_lent ≡ n.terms → columns_lent ≡ with_owners [] columns_left
         → CheckedAndLaid text_judged columns_left plan_left n
+    unfolding checked_told
     from_doors checks lays n accepts same_terms same_columns =
-        let told = sym (ap (λ (q : Outcome). q.answer) checks) ∙ accepts in
+        let told = sym (ap (λ (q : Outcome). q.answer) checks) ∙ ap checked_told accepts in
         let (t, is, counts, columns_are) = outcome_accepts _ (judged text_judged) n told in
         let columns_hold = ap (λ (q : Outcome). q.columns) checks ∙ columns_are in
         let laid_from : ℕ → Columns → List ℕ =

@@ -37,13 +37,12 @@ use Rattle.links.specs.declared.GraphCounts.{GraphCounts}
 use Rattle.walks.proofs.Telling.{Telling, mark_told, labelled_told}
 use Rattle.links.proofs.Listed.{arcs_back, meetings_back}
 use Rattle.framing.specs.words.Told.{place_by, labels_told, graph_told}
-use Rattle.writing.specs.declared.Saved.{Saved}
+use Rattle.writing.specs.Answers.{Saved}
 use Rattle.saving.proofs.NumberedTold.{literal_placed}
 use Rattle.finding.specs.code.Found.{marks_of}
 use Rattle.reading.specs.code.Outcome.{track_of, TrackRead, with_graph, graph_read, by_outcome}
 use Rattle.reading.specs.words.Kept.{Reads}
-use Rattle.reading.specs.declared.Read.{Read}
-use Rattle.reading.specs.declared.Read.TheVariants.{Accepted, Refused}
+use Rattle.reading.specs.Answers.{Read, Accepted, Refused}
 use Rattle.reading.proofs.MarksTold.{marks_telling}
 use Rattle.reading.proofs.RuleLaws.{labels_below}
 use Rattle.runs.specs.words.Held.{Words}

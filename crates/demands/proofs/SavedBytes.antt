@@ -19,8 +19,7 @@ use Rattle.graphs.specs.Saved.{saved}
 use Rattle.graphs.specs.Renumbering.{Renumbering}
 use Rattle.graphs.proofs.Exactly.{saved_equal_exactly}
 use Rattle.writing.specs.words.Slice.{Put, with_slice, written}
-use Rattle.writing.specs.declared.Saved.{Saved}
-use Rattle.writing.specs.declared.Saved.TheVariants.{Short}
+use Rattle.writing.specs.Answers.{Saved, Short}
 use Rattle.writing.proofs.Whole.{written_whole, written_short}
 use Rattle.columns.specs.words.Columns.{all_columns}
 use Rattle.tables.specs.words.Columns.{TableOf}

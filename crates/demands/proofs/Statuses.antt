@@ -26,7 +26,7 @@ use Rattle.plans.specs.words.Layout.{layout}
 use Rattle.plans.proofs.LaidRooms.{layout_low}
 use Rattle.status.proofs.Runs.{run_covers}
 use Rattle.runs.specs.words.Held.{Words, addressed}
-use Rattle.runs.specs.declared.Answer.{Answer}
+use Rattle.runs.specs.Answer.{Answer}
 use Rattle.demands.specs.Ahead.{Ahead, next, further}
 use Rattle.demands.specs.words.Words.{Planned, HoldsRun, Steps, shows}
 use Rattle.demands.specs.words.Statuses.{StatusOf}

@@ -23,16 +23,14 @@ use Rattle.plans.specs.words.Layout.{layout}
 use Rattle.runs.specs.words.Held.{Table, addressed, told, behind, Words, Begins}
 use Rattle.rules.specs.Addressed.{answered}
 use Rattle.rules.specs.Derivation.{first_step}
-use Rattle.runs.specs.declared.Answer.{Answer}
-use Rattle.runs.specs.declared.Answer.TheVariants.{Accepted, Refused}
-use Rattle.runs.specs.declared.Shown.{Shown}
+use Rattle.runs.specs.Answer.{Answer, Accepted, Refused, Shown}
 use Rattle.runs.proofs.Once.{held_once}
 use Rattle.playing.specs.words.Account.{first_behind}
-use Rattle.playing.specs.declared.Played.{Played}
+use Rattle.playing.specs.Played.{Played}
 use Rattle.graphs.specs.Graph.{graph_of, present}
 use Rattle.graphs.specs.Saved.{saved}
 use Rattle.graphs.specs.Renumbering.{Renumbering}
-use Rattle.writing.specs.declared.Saved.{Saved}
+use Rattle.writing.specs.Answers.{Saved}
 use Rattle.demands.specs.words.Words.{Planned, HoldsRun, Steps, SavesWords}
 use Rattle.demands.specs.words.Bytes.{bytes_of}
 use Rattle.demands.specs.Ahead.{Ahead, next, further}

@@ -4,13 +4,9 @@ use mathlib.Core.Path.{◌≡◌, refl, sym, ap, ◌∙◌}
 use mathlib.Core.Bool.{Bool, true, false, ◌&&◌}
 use mathlib.Core.List.{List, [], ◌∷◌, map}
 use native.Mathlib.Omega.{arith}
-use native.Mathlib.Numerals.{add-one, one-add}
-use lib.ListN.{length, drop, get_or, drop_of_length-le}
 use lib.Dec.{leb, ltb, eqb}
-use lib.Seq.{drop-cons}
 use borrow.Author.Tests.{le-leb, lt-leb, leb-true, ltb-true, ltb-false, lt-ltb, eqb-true, eqb-false, ne_eqb}
 use Rattle.lines.specs.Line.{choose, digit, LF}
-use Rattle.lines.specs.code.Characters.{run}
 use Rattle.lines.proofs.Digits.{both, digit_LF, Digits, no_more, one_more, Inline, none_inline, inline}
 use Rattle.desk_lines.specs.DeskLine.{CR, small}
 
@@ -136,25 +132,6 @@ module _ (c : ℕ) (byte : c < 256) where
       go : (b : Bool) → ltb c 48 ≡ b → IsDigit c false
       go true e = below_digits c (ltb-true c 48 e)
       go false e = let low = ltb-false c 48 e in past_digits c (omega arith)
-
--- how many digits a text has from a place on
-module _ (s : List ℕ) (i : ℕ) where
-  pub run_over : length s ≤ i → run (map small (drop i s)) ≡ 0
-  unfolding run
-  run_over h = rw (drop_of_length-le s h)
-
-  pub run_stops : i < length s → IsDigit (get_or s i 0) false → run (map small (drop i s)) ≡ 0
-  unfolding run
-  run_stops h e =
-      let none : 16 ≤ digit (small (get_or s i 0)) = ltb-false _ 16 (rw e) in
-      rw (drop-cons s i 0 h) (simp (le-leb 16 _ none))
-
-  pub run_goes_on : i < length s → IsDigit (get_or s i 0) true
-      → run (map small (drop i s)) ≡ 1 + run (map small (drop (i + 1) s))
-  unfolding run
-  run_goes_on h e =
-      let one : digit (small (get_or s i 0)) < 16 = ltb-true _ 16 (rw e) in
-      rw (drop-cons s i 0 h) (simp (lt-leb 16 _ one, add-one, one-add))
 
 -- digits stand in one line, and the CR with them
 small_LF : small LF ≡ LF

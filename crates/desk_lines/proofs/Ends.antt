@@ -2,15 +2,16 @@
 -- Assumes nothing.
 use Prim.Native.Nat.{ℕ, ◌≤◌, ◌<◌, ◌+◌}
 use mathlib.Core.Path.{◌≡◌, refl, ap, ◌∙◌}
-use mathlib.Core.Bool.{false}
+use mathlib.Core.Bool.{Bool, true, false}
 use mathlib.Core.List.{List, [], ◌∷◌, ◌++◌, map, map-append, append-nil}
-use mathlib.Core.Option.{none}
+use Rattle.std.proofs.Common.{Some, None}
+use Rattle.std.proofs.Math.Option.{none}
 use native.Mathlib.Omega.{arith}
 use native.Mathlib.Numerals.{add-one}
 use lib.ListN.{length, drop, get_or, drop_of_length-le}
-use lib.Dec.{eqb}
+use lib.Dec.{eqb, ltb}
 use lib.Seq.{drop-cons}
-use borrow.Author.Tests.{eq-eqb, ne_eqb}
+use borrow.Author.Tests.{eq-eqb, ne_eqb, ltb-true, ltb-false}
 use Rattle.lines.specs.Line.{digit, LF, Raw, full, open_ended, frame, characters}
 use Rattle.lines.proofs.Digits.{Digits, one_more, Inline, none_inline, inline, frame_broken}
 use Rattle.desk_lines.specs.DeskLine.{CR, small, without_CR, strict, desk_frame}
@@ -76,15 +77,15 @@ desk_broken (full cs) ds x ys e h k =
 
 -- where the next line begins, by what stands at a place of a text
 module _ (s : List ℕ) (i : ℕ) where
-  pub behind_nothing : length s ≤ i → behind i (drop i s) ≡ 0
+  pub behind_nothing : length s ≤ i → behind i (drop i s) ≡ None
   unfolding behind
   behind_nothing h = rw (drop_of_length-le s h)
 
-  pub behind_LF : i < length s → get_or s i 0 ≡ LF → behind i (drop i s) ≡ i + 1
+  pub behind_LF : i < length s → get_or s i 0 ≡ LF → behind i (drop i s) ≡ Some (i + 1)
   unfolding behind
   behind_LF h e = rw (drop-cons s i 0 h) (simp (eq-eqb _ LF e))
 
-  pub behind_other : i < length s → (get_or s i 0 ≡ LF → ⊥) → (get_or s i 0 ≡ CR → ⊥) → behind i (drop i s) ≡ 0
+  pub behind_other : i < length s → (get_or s i 0 ≡ LF → ⊥) → (get_or s i 0 ≡ CR → ⊥) → behind i (drop i s) ≡ None
   unfolding behind
   behind_other h e k = rw (drop-cons s i 0 h) (simp (ne_eqb _ LF e, ne_eqb _ CR k))
 
@@ -93,14 +94,16 @@ module _ (s : List ℕ) (i : ℕ) where
     unfolding behind
     behind_CR = rw (drop-cons s i 0 h, e, add-one)
 
-    pub behind_CR_nothing : length s ≤ i + 1 → behind i (drop i s) ≡ 0
+    pub behind_CR_LF : i + 1 < length s → get_or s (i + 1) 0 ≡ LF → behind i (drop i s) ≡ Some (i + 2)
     unfolding behind_feed
-    behind_CR_nothing k = behind_CR ∙ rw (drop_of_length-le s k)
+    behind_CR_LF k q =
+        let two : i + 1 + 1 ≡ i + 2 = omega arith in
+        behind_CR ∙ rw (drop-cons s (i + 1) 0 k) (simp (eq-eqb _ LF q, two))
 
-    pub behind_CR_LF : i + 1 < length s → get_or s (i + 1) 0 ≡ LF → behind i (drop i s) ≡ i + 1 + 1
+    pub behind_CR_alone : (i + 1 < length s → get_or s (i + 1) 0 ≡ LF → ⊥) → behind i (drop i s) ≡ None
     unfolding behind_feed
-    behind_CR_LF k q = behind_CR ∙ rw (drop-cons s (i + 1) 0 k) (simp (eq-eqb _ LF q))
-
-    pub behind_CR_other : i + 1 < length s → (get_or s (i + 1) 0 ≡ LF → ⊥) → behind i (drop i s) ≡ 0
-    unfolding behind_feed
-    behind_CR_other k q = behind_CR ∙ rw (drop-cons s (i + 1) 0 k) (simp (ne_eqb _ LF q))
+    behind_CR_alone other = behind_CR ∙ go (ltb (i + 1) (length s)) refl
+      where
+        go : (b : Bool) → ltb (i + 1) (length s) ≡ b → behind_feed (i + 1) (drop (i + 1) s) ≡ None
+        go true b = let more = ltb-true (i + 1) (length s) b in rw (drop-cons s (i + 1) 0 more) (simp (ne_eqb _ LF (other more)))
+        go false b = rw (drop_of_length-le s (ltb-false (i + 1) (length s) b))

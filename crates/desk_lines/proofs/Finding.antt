@@ -1,7 +1,7 @@
 -- The answer for a desk's line, by its run of digits and what stands behind that: no line's end, or one, and then the count of
 -- the digits decides. Assumes nothing.
 use Prim.Native.Nat.{ℕ, ◌≤◌, ◌<◌, ◌-◌, ◌+◌, ◌%◌}
-use mathlib.Core.Path.{◌≡◌, refl, sym, ap, ap₂, ◌∙◌}
+use Rattle.std.proofs.Common.{◌≡◌, refl, sym, ap, ap₂, ◌∙◌, Some, None}
 use mathlib.Core.Bool.{Bool, true, false}
 use mathlib.Core.List.{List, [], ◌∷◌, ◌++◌, map, append-nil, append_assoc}
 use native.Mathlib.Omega.{arith}
@@ -123,107 +123,110 @@ module _ (s : List ℕ) (at e : ℕ) (inside : at < length s) (end : e ≡ at + 
       sym cut.back_is ∙ ap (map small) (rest_is ∙ q) in
       (split (map small text)).ends (small c) (map small cs) stands
 
+  -- no end stands there
+  pub desk_unended : None ≡ behind e (drop e s) → desk_answer at (lines text) ≡ NoLine
+  unfolding behind behind_feed
+  desk_unended place = go (drop e s) refl (sym place)
+    where
+      unended : (cs : List ℕ) → text ≡ cs → Inline cs → desk_answer at (lines text) ≡ NoLine
+      unended cs w t = open_answer at text (rw w t) (omega (arith, length-drop at s))
+
+      by_feed : (d : ℕ) (cs : List ℕ) → text ≡ ds ++ CR ∷ d ∷ cs → (b : Bool) → eqb d LF ≡ b
+          → choose b (Some (e + 1 + 1)) None ≡ None → desk_answer at (lines text) ≡ NoLine
+      by_feed d cs w true b stands = cc
+      by_feed d cs w false b stands = rw w (return_answer at ds d cs are_digits b)
+
+      by_return : (cs : List ℕ) → text ≡ ds ++ CR ∷ cs → behind_feed (e + 1) cs ≡ None
+          → desk_answer at (lines text) ≡ NoLine
+      by_return [] w stands = unended (ds ++ CR ∷ []) w (ended_inline ds (CR ∷ []) are_digits one_return)
+      by_return (d ∷ cs) w stands = by_feed d cs w (eqb d LF) refl stands
+
+      by_first : (c : ℕ) (cs : List ℕ) → drop e s ≡ c ∷ cs → (p q : Bool) → eqb c LF ≡ p → eqb c CR ≡ q
+          → choose p (Some (e + 1)) (choose q (behind_feed (e + 1) cs) None) ≡ None → desk_answer at (lines text) ≡ NoLine
+      by_first c cs w true q f r stands = cc
+      by_first c cs w false true f r stands =
+          by_return cs (whole_is (c ∷ cs) w ∙ ap (λ (x : ℕ). ds ++ x ∷ cs) (eqb-true c CR r)) stands
+      by_first c cs w false false f r stands =
+          rw (whole_is (c ∷ cs) w) (other_answer at ds c cs (digits_inline ds are_digits) f (no_digit c cs w) r)
+
+      go : (rest : List ℕ) → drop e s ≡ rest → behind e rest ≡ None → desk_answer at (lines text) ≡ NoLine
+      go [] w stands = unended ds (whole_is [] w ∙ append-nil ds) (digits_inline ds are_digits)
+      go (c ∷ cs) w stands = by_first c cs w (eqb c LF) (eqb c CR) refl refl stands
+
   -- where the next line begins
-  module _ (next : ℕ) (place : next ≡ behind e (drop e s)) where
-    -- no end stands there
-    pub desk_unended : next ≡ 0 → desk_answer at (lines text) ≡ NoLine
+  module _ (next : ℕ) (place : Some next ≡ behind e (drop e s)) where
+    -- the digits and what ends them
+    record Ended : Type 0 where
+      rs : List ℕ
+      more : List ℕ
+      return : Return rs
+      line_is : text ≡ (ds ++ rs) ++ LF ∷ more
+      ends : at + length (ds ++ rs) + 1 ≡ next
+
+    ended : Ended
     unfolding behind behind_feed
-    desk_unended z = go (drop e s) refl (sym place ∙ z)
+    ended = go (drop e s) refl place
       where
-        unended : (cs : List ℕ) → text ≡ cs → Inline cs → desk_answer at (lines text) ≡ NoLine
-        unended cs w t = open_answer at text (rw w t) (omega (arith, length-drop at s))
-
         by_feed : (d : ℕ) (cs : List ℕ) → text ≡ ds ++ CR ∷ d ∷ cs → (b : Bool) → eqb d LF ≡ b
-            → choose b (e + 1 + 1) 0 ≡ 0 → desk_answer at (lines text) ≡ NoLine
-        by_feed d cs w true b none = absurd (omega arith)
-        by_feed d cs w false b none = rw w (return_answer at ds d cs are_digits b)
+            → Some next ≡ choose b (Some (e + 1 + 1)) None → Ended
+        by_feed d cs w true b is =
+            let n : next ≡ e + 1 + 1 = cc in
+            record {
+              rs = CR ∷ [];
+              more = cs;
+              return = one_return;
+              line_is =
+                  w ∙ ap (λ (x : ℕ). ds ++ CR ∷ x ∷ cs) (eqb-true d LF b) ∙ sym (append_assoc ds (CR ∷ []) (LF ∷ cs));
+              ends = omega (arith, length-append ds (CR ∷ []), counted);
+            }
+        by_feed d cs w false b is = absurd cc
 
-        by_return : (cs : List ℕ) → text ≡ ds ++ CR ∷ cs → behind_feed (e + 1) cs ≡ 0
-            → desk_answer at (lines text) ≡ NoLine
-        by_return [] w none = unended (ds ++ CR ∷ []) w (ended_inline ds (CR ∷ []) are_digits one_return)
-        by_return (d ∷ cs) w none = by_feed d cs w (eqb d LF) refl none
+        by_return : (cs : List ℕ) → text ≡ ds ++ CR ∷ cs → Some next ≡ behind_feed (e + 1) cs → Ended
+        by_return [] w is = absurd cc
+        by_return (d ∷ cs) w is = by_feed d cs w (eqb d LF) refl is
 
-        by_first : (c : ℕ) (cs : List ℕ) → drop e s ≡ c ∷ cs → (p q : Bool) → eqb c LF ≡ p → eqb c CR ≡ q
-            → choose p (e + 1) (choose q (behind_feed (e + 1) cs) 0) ≡ 0 → desk_answer at (lines text) ≡ NoLine
-        by_first c cs w true q f r none = absurd (omega arith)
-        by_first c cs w false true f r none =
-            by_return cs (whole_is (c ∷ cs) w ∙ ap (λ (x : ℕ). ds ++ x ∷ cs) (eqb-true c CR r)) none
-        by_first c cs w false false f r none =
-            rw (whole_is (c ∷ cs) w) (other_answer at ds c cs (digits_inline ds are_digits) f (no_digit c cs w) r)
+        by_first : (c : ℕ) (cs : List ℕ) → text ≡ ds ++ c ∷ cs → (p q : Bool) → eqb c LF ≡ p → eqb c CR ≡ q
+            → Some next ≡ choose p (Some (e + 1)) (choose q (behind_feed (e + 1) cs) None) → Ended
+        by_first c cs w true q f r is =
+            let n : next ≡ e + 1 = cc in
+            record {
+              rs = [];
+              more = cs;
+              return = no_return;
+              line_is = w ∙ ap₂ (λ (l : List ℕ) (x : ℕ). l ++ x ∷ cs) (sym (append-nil ds)) (eqb-true c LF f);
+              ends = rw (append-nil ds) (omega (arith, counted));
+            }
+        by_first c cs w false true f r is =
+            by_return cs (w ∙ ap (λ (x : ℕ). ds ++ x ∷ cs) (eqb-true c CR r)) is
+        by_first c cs w false false f r is = absurd cc
 
-        go : (rest : List ℕ) → drop e s ≡ rest → behind e rest ≡ 0 → desk_answer at (lines text) ≡ NoLine
-        go [] w none = unended ds (whole_is [] w ∙ append-nil ds) (digits_inline ds are_digits)
-        go (c ∷ cs) w none = by_first c cs w (eqb c LF) (eqb c CR) refl refl none
+        go : (rest : List ℕ) → drop e s ≡ rest → Some next ≡ behind e rest → Ended
+        go [] w is = absurd cc
+        go (c ∷ cs) w is = by_first c cs (whole_is (c ∷ cs) w) (eqb c LF) (eqb c CR) refl refl is
 
-    module _ (some_end : next ≡ 0 → ⊥) where
-      -- the digits and what ends them
-      record Ended : Type 0 where
-        rs : List ℕ
-        more : List ℕ
-        return : Return rs
-        line_is : text ≡ (ds ++ rs) ++ LF ∷ more
-        ends : at + length (ds ++ rs) + 1 ≡ next
+    -- the answer goes by the bytes of the digits
+    by_bytes : desk_answer at (lines text) ≡ seen e next (frame (full (map small ds)))
+    by_bytes =
+        let w = ended in
+        ap (λ (t : List ℕ). desk_answer at (lines t)) w.line_is
+        ∙ line_answer at ds w.rs w.more are_digits w.return
+        ∙ ap₂ (λ (i j : ℕ). seen i j (frame (full (map small ds)))) counted w.ends
 
-      ended : Ended
-      unfolding behind behind_feed
-      ended = go (drop e s) refl place
-        where
-          by_feed : (d : ℕ) (cs : List ℕ) → text ≡ ds ++ CR ∷ d ∷ cs → (b : Bool) → eqb d LF ≡ b
-              → next ≡ choose b (e + 1 + 1) 0 → Ended
-          by_feed d cs w true b is = record {
-            rs = CR ∷ [];
-            more = cs;
-            return = one_return;
-            line_is =
-                w ∙ ap (λ (x : ℕ). ds ++ CR ∷ x ∷ cs) (eqb-true d LF b) ∙ sym (append_assoc ds (CR ∷ []) (LF ∷ cs));
-            ends = omega (arith, length-append ds (CR ∷ []), counted);
-          }
-          by_feed d cs w false b is = absurd (some_end is)
+    many : length (map small ds) ≡ e - at
+    many = omega (arith, length-map ds small, counted)
 
-          by_return : (cs : List ℕ) → text ≡ ds ++ CR ∷ cs → next ≡ behind_feed (e + 1) cs → Ended
-          by_return [] w is = absurd (some_end is)
-          by_return (d ∷ cs) w is = by_feed d cs w (eqb d LF) refl is
+    pub desk_empty : e - at ≡ 0 → desk_answer at (lines text) ≡ NoLine
+    unfolding seen
+    desk_empty h = by_bytes ∙ rw (frame_empty (map small ds) (many ∙ h))
 
-          by_first : (c : ℕ) (cs : List ℕ) → text ≡ ds ++ c ∷ cs → (p q : Bool) → eqb c LF ≡ p → eqb c CR ≡ q
-              → next ≡ choose p (e + 1) (choose q (behind_feed (e + 1) cs) 0) → Ended
-          by_first c cs w true q f r is = record {
-            rs = [];
-            more = cs;
-            return = no_return;
-            line_is = w ∙ ap₂ (λ (l : List ℕ) (x : ℕ). l ++ x ∷ cs) (sym (append-nil ds)) (eqb-true c LF f);
-            ends = rw (append-nil ds) (omega (arith, counted));
-          }
-          by_first c cs w false true f r is =
-              by_return cs (w ∙ ap (λ (x : ℕ). ds ++ x ∷ cs) (eqb-true c CR r)) is
-          by_first c cs w false false f r is = absurd (some_end is)
+    pub desk_odd : ((e - at) % 2 ≡ 0 → ⊥) → desk_answer at (lines text) ≡ NoLine
+    unfolding seen
+    desk_odd h =
+        let odd = bytes_odd (map small ds) (λ q. h (ap (λ (n : ℕ). n % 2) (sym many) ∙ q)) in
+        by_bytes ∙ rw (frame_none (map small ds) odd)
 
-          go : (rest : List ℕ) → drop e s ≡ rest → next ≡ behind e rest → Ended
-          go [] w is = absurd (some_end is)
-          go (c ∷ cs) w is = by_first c cs (whole_is (c ∷ cs) w) (eqb c LF) (eqb c CR) refl refl is
-
-      -- the answer goes by the bytes of the digits
-      by_bytes : desk_answer at (lines text) ≡ seen e next (frame (full (map small ds)))
-      by_bytes =
-          let w = ended in
-          ap (λ (t : List ℕ). desk_answer at (lines t)) w.line_is
-          ∙ line_answer at ds w.rs w.more are_digits w.return
-          ∙ ap₂ (λ (i j : ℕ). seen i j (frame (full (map small ds)))) counted w.ends
-
-      many : length (map small ds) ≡ e - at
-      many = omega (arith, length-map ds small, counted)
-
-      pub desk_empty : e - at ≡ 0 → desk_answer at (lines text) ≡ NoLine
-      unfolding seen
-      desk_empty h = by_bytes ∙ rw (frame_empty (map small ds) (many ∙ h))
-
-      pub desk_odd : ((e - at) % 2 ≡ 0 → ⊥) → desk_answer at (lines text) ≡ NoLine
-      unfolding seen
-      desk_odd h =
-          let odd = bytes_odd (map small ds) (λ q. h (ap (λ (n : ℕ). n % 2) (sym many) ∙ q)) in
-          by_bytes ∙ rw (frame_none (map small ds) odd)
-
-      pub desk_found : (e - at ≡ 0 → ⊥) → (e - at) % 2 ≡ 0 → desk_answer at (lines text) ≡ Found e next
-      unfolding seen
-      desk_found z h =
-          let b = bytes_even (map small ds) are_digits (ap (λ (n : ℕ). n % 2) many ∙ h) in
-          by_bytes ∙ rw (frame_some (map small ds) b.0 (omega (arith, many)) b.1)
+    pub desk_found : (e - at ≡ 0 → ⊥) → (e - at) % 2 ≡ 0 → desk_answer at (lines text) ≡ Found e next
+    unfolding seen
+    desk_found z h =
+        let b = bytes_even (map small ds) are_digits (ap (λ (n : ℕ). n % 2) many ∙ h) in
+        by_bytes ∙ rw (frame_some (map small ds) b.0 (omega (arith, many)) b.1)

@@ -24,15 +24,11 @@ pub fn find_desk_line(text: &[u8], at: usize) -> Line
         return Line::End;
     }
     let end = digits_end(text, at);
-    let next = behind_end(text, end);
-    if next == 0 {
+    let Some(next) = behind_end(text, end) else {
         return Line::NoLine;
-    }
+    };
     let count = end - at;
-    if count == 0 {
-        return Line::NoLine;
-    }
-    if count % 2 != 0 {
+    if count == 0 || count % 2 != 0 {
         return Line::NoLine;
     }
     Line::Found { end, next }
@@ -44,43 +40,29 @@ fn digits_end(text: &[u8], from: usize) -> usize
     ensures { (result ≡ from + run (map small (drop from text.now)))
         × (result ≤ length text.now) }
 {
-    let mut i = from;
-    while i < text.len() {
-        if !is_digit(text[i]) {
-            return i;
-        }
-        i += 1;
-    }
-    i
+    let rest = &text[from..];
+    from + rest
+        .iter()
+        .position(|c| !is_digit(*c))
+        .unwrap_or(rest.len())
 }
 
-// Where the next line begins, behind the LF or CR LF at the end of a line's digits; 0 where neither stands there.
-fn behind_end(text: &[u8], end: usize) -> usize
+// Where the next line begins, behind the LF or CR LF at the end of a line's digits; none where neither stands there.
+fn behind_end(text: &[u8], end: usize) -> Option<usize>
     ensures { result ≡ behind end (drop end text.now) }
 {
-    if text.len() <= end {
-        return 0;
+    match *text.get(end)? {
+        LF => Some(end + 1),
+        CR if text.get(end + 1) == Some(&LF) => Some(end + 2),
+        _ => None,
     }
-    if text[end] == LF {
-        return end + 1;
-    }
-    if text[end] != CR {
-        return 0;
-    }
-    let feed = end + 1;
-    if text.len() <= feed {
-        return 0;
-    }
-    if text[feed] != LF {
-        return 0;
-    }
-    feed + 1
 }
 
 // Whether a character is a digit, a capital too. What is below 48 has no place among the 64 either.
 fn is_digit(c: u8) -> bool
     ensures { result ≡ ltb (digit (small c)) 16 }
 {
-    let place = (c as usize + 208) % 256;
+    // For speed: one bit of a number, and no test of each range, as a table's every character is asked.
+    let place = c.wrapping_sub(b'0');
     place < 64 && (DIGITS >> place) % 2 == 1
 }

@@ -1,13 +1,7 @@
 -- What a step writes, by what its tests found. Of a loop, what is kept so far, with the rest of its work, is
 -- the whole: one law a turn, and one at its end. Assumes nothing.
-use Prim.Native.Nat.{ℕ, zero, suc, ◌+◌, ◌*◌, ◌-◌, ◌≤◌, ◌<◌}
-use mathlib.Core.Path.{◌≡◌, refl, ap}
-use mathlib.Core.Bool.{Bool, true, false}
-use mathlib.Core.List.{List}
-use mathlib.Core.Logic.{◌⊎◌, inl, inr}
-use native.Mathlib.Omega.{arith}
-use native.Mathlib.Numerals.{add-one}
-use borrow.Author.Tests.{lt-ltb, le-ltb}
+use Rattle.std.proofs.Common.{ℕ, zero, suc, ◌+◌, ◌*◌, ◌-◌, ◌≤◌, ◌<◌, min, ◌≡◌, refl, ap, Bool, true, false}
+use Rattle.std.proofs.Common.{List, ◌⊎◌, inl, inr, arith, add-one, lt-ltb, le-ltb}
 use Rattle.control.specs.words.Words.{put, track_word, put_track, event_node, event_nodes_from, meetings_from}
 use Rattle.control.specs.words.Sums.{capped}
 use Rattle.looking.specs.code.Looking.{leads}
@@ -137,15 +131,15 @@ module _ (i most j b : ℕ) (k : Tally) (g : List ℕ) where
 
 -- parents of two references get an arc to a third
 module _ (m n t i : ℕ) (k : Tally) (g : List ℕ) where
-  pub joined_past : (c : ℕ) → 8192 ≤ i → joined m n t i c k g ≡ kept k g
+  -- past the last arc, or past those that there is room for
+  none_joined : (c : ℕ) → min (i + c) 8192 ≤ i → joined m n t i c k g ≡ kept k g
   unfolding joined
-  joined_past zero full = refl
-  joined_past (suc c) full = simp (le-ltb i 8192 full)
+  none_joined zero h = refl
+  none_joined (suc c) h = let full : 8192 ≤ i = omega arith in simp (le-ltb i 8192 full)
 
   module _ (most : ℕ) where
-    pub joined_end : most ≤ i → joined m n t i (most - i) k g ≡ kept k g
-    unfolding joined
-    joined_end h = rw (none_left i most h)
+    pub joined_end : (end : ℕ) → end ≡ min most 8192 → end ≤ i → joined m n t i (most - i) k g ≡ kept k g
+    joined_end end e h = none_joined (most - i) (omega arith)
 
     module _ (below : i < most) (room : i < 8192) (from to : ℕ) (b : Bool)
         (from_is : from ≡ track_word g (2 * i)) (to_is : to ≡ track_word g (2 * i + 1))

@@ -31,11 +31,8 @@ pub fn label(n: usize, mark: usize, tally: Tally, nodes: &mut Nodes) -> Tally
 {
     put(n, LABEL, mark, nodes);
     Tally {
-        fresh: tally.fresh,
         nodes: sum(tally.nodes, 1),
-        arcs: tally.arcs,
-        meetings: tally.meetings,
-        met: tally.met,
+        ..tally
     }
 }
 
@@ -50,11 +47,8 @@ fn arc(from: usize, to: usize, tally: Tally, track: &mut Track) -> Tally
         put_track(2 * at + 1, to, track);
     }
     Tally {
-        fresh: tally.fresh,
-        nodes: tally.nodes,
         arcs: sum(at, 1),
-        meetings: tally.meetings,
-        met: tally.met,
+        ..tally
     }
 }
 
@@ -73,10 +67,7 @@ pub fn past_fresh(tally: Tally) -> Tally
 {
     Tally {
         fresh: sum(tally.fresh, 1),
-        nodes: tally.nodes,
-        arcs: tally.arcs,
-        meetings: tally.meetings,
-        met: tally.met,
+        ..tally
     }
 }
 
@@ -99,11 +90,8 @@ pub fn keep(n: usize, tally: Tally, track: &mut Track) -> Tally
         put_track(EVENT_NODES_FROM + at, n, track);
     }
     Tally {
-        fresh: tally.fresh,
-        nodes: tally.nodes,
-        arcs: tally.arcs,
-        meetings: tally.meetings,
         met: sum(at, 1),
+        ..tally
     }
 }
 
@@ -118,15 +106,12 @@ fn meet(i: usize, j: usize, tally: Tally, track: &mut Track) -> Tally
         put_track(MEETINGS_FROM + 2 * at + 1, j, track);
     }
     Tally {
-        fresh: tally.fresh,
-        nodes: tally.nodes,
-        arcs: tally.arcs,
         meetings: sum(at, 1),
-        met: tally.met,
+        ..tally
     }
 }
 
-// Event node number i of the step.
+// Event node number i of the step. The test stands first, since the sum could overflow before a `get`.
 fn event_node(i: usize, track: &Track) -> usize
     ensures { result ≡ event_node i track.now }
 {
@@ -143,11 +128,9 @@ fn meet_each(n: usize, from: usize, to: usize, tally: Tally, track: &mut Track) 
     ensures track_after { track.new ≡ (spec.met_each n from (to - from) tally track.old).track }
 {
     let mut kept = tally;
-    let mut i = from;
-    while i < to {
+    for i in from..to {
         let other = event_node(i, track);
         kept = meet(n, other, kept, track);
-        i += 1;
     }
     kept
 }
@@ -159,11 +142,9 @@ pub fn meet_all(from: usize, middle: usize, to: usize, tally: Tally, track: &mut
         ≡ (spec.met_all from (middle - from) middle (to - middle) tally track.old).track }
 {
     let mut kept = tally;
-    let mut i = from;
-    while i < middle {
+    for i in from..middle {
         let node = event_node(i, track);
         kept = meet_each(node, middle, to, kept, track);
-        i += 1;
     }
     kept
 }
@@ -174,19 +155,13 @@ pub fn join(first: usize, second: usize, to: usize, tally: Tally, track: &mut Tr
     ensures track_after { track.new
         ≡ (spec.joined first second to 0 tally.arcs tally track.old).track }
 {
-    let arcs = tally.arcs;
     let mut kept = tally;
-    let mut i: usize = 0;
-    while i < arcs {
-        if ARC_ROOM <= i {
-            return kept;
-        }
+    for i in 0..tally.arcs.min(ARC_ROOM) {
         let from = track_word(2 * i, track);
         let target = track_word(2 * i + 1, track);
         if leads(target, first, second) {
             kept = arc(from, to, kept, track);
         }
-        i += 1;
     }
     kept
 }

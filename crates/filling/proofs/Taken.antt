@@ -1,10 +1,5 @@
 -- Taking a frame in: what `owe` leaves, by how many subterms the kind has. Assumes nothing.
-use Prim.Native.Nat.{ℕ, ◌+◌, ◌-◌}
-use mathlib.Core.Path.{◌≡◌, sym, ap₂, ◌∙◌}
-use mathlib.Core.List.{List}
-use native.Mathlib.Omega.{arith}
-use lib.ListN.{get_or, set}
-use borrow.Author.Tests.{eq-eqb, ne_eqb}
+use Rattle.std.proofs.Common.{ℕ, ◌+◌, ◌-◌, ◌≡◌, sym, ap₂, ◌∙◌, List, arith, get_or, set, eq-eqb, ne_eqb}
 use Rattle.kinds.specs.Kind.{subterms}
 use Rattle.filling.specs.code.Taking.{topmost, moved, owed, pushed}
 use Rattle.frames.specs.declared.Seen.{Seen}

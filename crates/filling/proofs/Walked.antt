@@ -1,9 +1,6 @@
 -- The preorder walk, a turn at a time. Assumes nothing.
-use Prim.Native.Nat.{ℕ, zero, suc, ◌-◌, ◌≤◌, ◌<◌}
-use mathlib.Core.Path.{◌≡◌, refl, ap, ◌∙◌}
-use mathlib.Core.List.{List}
-use native.Mathlib.Omega.{arith}
-use lib.ListN.{get_or, set}
+use Rattle.std.proofs.Common.{◌≡◌, refl, ℕ, zero, suc, ◌+◌, ◌-◌, ◌≤◌, ◌<◌, List, get_or, set, add-one}
+use Rattle.std.proofs.Common.{arith}
 use Rattle.kinds.specs.Kind.{subterms}
 use Rattle.filling.specs.words.Preorder.{past, walked}
 
@@ -21,15 +18,15 @@ module _ (j : ℕ) (xs : List ℕ) where
   unfolding past
   past_two n e = rw e
 
+-- a turn: of term number i - 1, behind which number i stands
 pub walked_turn : (i : ℕ) (ks xs : List ℕ) (n v : ℕ) → 0 < i → n ≡ subterms (get_or ks (i - 1) 0)
-    → v ≡ past n i xs
+    → v ≡ past n (i - 1 + 1) xs
     → walked i ks xs ≡ walked (i - 1) ks (set xs (i - 1) v)
 unfolding walked
 walked_turn zero ks xs n v h e q = absurd (omega arith)
 walked_turn (suc m) ks xs n v h e q =
     let p : suc m - 1 ≡ m = omega arith in
-    let e' : n ≡ subterms (get_or ks m 0) = e ∙ ap (λ (j : ℕ). subterms (get_or ks j 0)) p in
-    rw (p, q, e')
+    rw (q, e, p, add-one m)
 
 pub walked_end : (i : ℕ) (ks xs : List ℕ) → i ≤ 0 → walked i ks xs ≡ xs
 unfolding walked

@@ -9,14 +9,14 @@ ghost use Rattle.filling.specs.code.Taking.{roots_then, column_then};
 ghost use Rattle.filling.specs.words.Preorder.{past, walked};
 ghost use Rattle.frames.specs.TableFrame.{definition_room, path_room, term_room};
 
-use columns::{After, Kinds, Owners, Payloads, Roots, after_word};
+use columns::{After, Kinds, Owners, Payloads, Roots, after_of, after_word};
 use frames::{Frame, Seen};
 use kinds::subterms;
-use numbers::wide;
 
 // The path lengths of the terms due behind the next: one for each level of a path, and the root's.
 pub const LEVEL_ROOM: usize = 65;
 
+// An array of its room, with no heap.
 pub type Waiting = [u8; LEVEL_ROOM];
 
 // Takes a frame in that meets no refusal.
@@ -52,13 +52,7 @@ pub fn take(
             roots[at] = terms as u16;
             begin(s)
         }
-        Frame::Opening {
-            edition: _,
-            definitions: _,
-            events: _,
-        } => s,
-        Frame::Closing(_) => s,
-        Frame::Wrong => s,
+        Frame::Opening { .. } | Frame::Closing(_) | Frame::Wrong => s,
     }
 }
 
@@ -68,12 +62,10 @@ fn begin(s: Seen) -> Seen
     ensures { result ≡ started s }
 {
     Seen {
-        definitions: s.definitions,
-        events: s.events,
         begun: s.begun + 1,
-        terms: s.terms,
         due: 1,
         depth: 0,
+        ..s
     }
 }
 
@@ -83,39 +75,31 @@ fn owe(kind: u8, s: Seen, waiting: &mut Waiting) -> Seen
     ensures value { result ≡ owed kind s waiting.old }
     ensures waiting_after { waiting.new ≡ pushed kind s waiting.old }
 {
-    let count = subterms(kind);
     let others = s.due - 1;
-    let below = s.depth + 1;
     let terms = s.terms + 1;
-    if count == 0 {
-        let depth = last(others, waiting);
-        return Seen {
-            definitions: s.definitions,
-            events: s.events,
-            begun: s.begun,
+    let below = s.depth + 1;
+    match subterms(kind) {
+        0 => Seen {
             terms,
             due: others,
-            depth,
-        };
-    }
-    if count == 1 {
-        return Seen {
-            definitions: s.definitions,
-            events: s.events,
-            begun: s.begun,
+            depth: last(others, waiting),
+            ..s
+        },
+        1 => Seen {
             terms,
             due: others + 1,
             depth: below,
-        };
-    }
-    waiting[others] = below as u8;
-    Seen {
-        definitions: s.definitions,
-        events: s.events,
-        begun: s.begun,
-        terms,
-        due: others + 2,
-        depth: below,
+            ..s
+        },
+        _ => {
+            waiting[others] = below as u8;
+            Seen {
+                terms,
+                due: others + 2,
+                depth: below,
+                ..s
+            }
+        }
     }
 }
 
@@ -125,10 +109,10 @@ fn last(others: usize, waiting: &Waiting) -> usize
     ensures { result ≡ topmost others waiting.now }
 {
     if others == 0 {
-        return 0;
+        0
+    } else {
+        usize::from(waiting[others - 1])
     }
-    let at = others - 1;
-    wide(waiting[at])
 }
 
 // Fills in, for each of the first `count` terms, the number of the term behind it.
@@ -136,13 +120,9 @@ pub fn walk(kinds: &Kinds, count: usize, after: &mut After)
     requires { (count ≤ term_room) × (length after.old ≡ term_room) }
     ensures { after.new ≡ walked count kinds.now after.old }
 {
-    let mut i = count;
-    while 0 < i {
-        let next = i;
-        i -= 1;
+    for i in (0..count).rev() {
         let n = subterms(kinds[i]);
-        let number = behind(n, next, after);
-        after[i] = number;
+        after[i] = behind(n, i + 1, after);
     }
 }
 
@@ -151,12 +131,12 @@ fn behind(n: u8, j: usize, after: &After) -> u16
     requires { (n ≤ 2) × (j ≤ term_room) × (length after.now ≡ term_room) }
     ensures { result ≡ past n j after.now }
 {
-    if n == 0 {
-        return j as u16;
+    match n {
+        0 => j as u16,
+        1 => after_word(j, after),
+        _ => {
+            let second = after_of(j, after);
+            after_word(second, after)
+        }
     }
-    let first = after_word(j, after);
-    if n == 1 {
-        return first;
-    }
-    after_word(first as usize, after)
 }

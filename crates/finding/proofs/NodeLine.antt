@@ -1,14 +1,8 @@
 -- The mark of a node by its line: each test on the bytes of the line is one of the definition's, and behind them the mark is found
 -- by the line's path. Assumes nothing.
-use Prim.Native.Nat.{ℕ, ◌/◌}
-use mathlib.Core.Path.{◌≡◌, refl, sym}
-use mathlib.Core.Bool.{true, false, ◌&&◌, and-false}
-use mathlib.Core.List.{List, [], ◌∷◌}
-use native.Mathlib.Omega.{arith}
-use lib.ListN.{length, drop, get_or, length-drop, drop_of_length-le}
-use lib.Dec.{eqb}
-use lib.Seq.{drop-cons}
-use borrow.Author.Tests.{eq-eqb, ne_eqb}
+use Rattle.std.proofs.Common.{◌≡◌, ℕ, ◌/◌, true, false, ◌&&◌, eqb, List, [], ◌∷◌, length, get_or, drop, sym}
+use Rattle.std.proofs.Common.{refl, arith, length-drop, drop_of_length-le, drop-cons, eq-eqb, ne_eqb}
+use Rattle.std.proofs.Math.Bool.{and-false}
 use Rattle.lines.specs.Line.{choose, number_at}
 use Rattle.numbers.specs.code.Numbers.{read_bytes, byte_at}
 use Rattle.numbers.proofs.Laws.{read_length}

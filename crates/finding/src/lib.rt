@@ -18,7 +18,7 @@ const DEFINITION_AT: usize = 3;
 
 const PATH_AT: usize = 5;
 
-// The mark of node k by its line; 0 where the line has another number, or a place that is not a node's.
+// The mark of node k by its line; 0, as a column has it, where the line has another number, or a place that is not a node's.
 pub fn mark_of(k: usize, chars: &[u8], kinds: &Kinds, after: &After, roots: &Roots) -> u16
     ensures { result ≡ of.mark_of kinds.now after.now roots.now k
         (label_at (read_bytes chars.now)) }
@@ -38,17 +38,14 @@ pub fn mark_of(k: usize, chars: &[u8], kinds: &Kinds, after: &After, roots: &Roo
     )
 }
 
-// The mark of node 0: path 0 of definition 00.
+// The mark of node 0: path 0 of definition 00; else 0, as a column has it.
 fn start_mark(chars: &[u8]) -> u16
     ensures { result ≡ of.start_here (place_at (read_bytes chars.now)) }
 {
-    if chars.len() / 2 != PATH_AT + 1 {
-        return 0;
-    }
-    if byte(chars, DEFINITION_AT) != 0 {
-        return 0;
-    }
-    if byte(chars, PATH_AT) != 0 {
+    if chars.len() / 2 != PATH_AT + 1
+        || byte(chars, DEFINITION_AT) != 0
+        || byte(chars, PATH_AT) != 0
+    {
         return 0;
     }
     START_MARK as u16

@@ -1,13 +1,8 @@
 -- What frame characters stand for: their bytes have a tag, the tag has a shape, and the shape has a count of
 -- bytes, which fits or does not. Assumes nothing.
-use Prim.Native.Nat.{ℕ, ◌≤◌, ◌<◌, ◌-◌, ◌+◌, ◌*◌, ◌/◌}
-use mathlib.Core.Path.{◌≡◌, sym, ap, ◌∙◌}
-use mathlib.Core.List.{List}
-use native.Mathlib.Omega.{arith}
-use lib.ListN.{length, take, drop, get_or, length-drop}
-use lib.Dec.{eqb}
-use lib.Seq.{take_all}
-use borrow.Author.Tests.{le-leb, lt-leb, eq-eqb, ne_eqb}
+use Rattle.std.proofs.Common.{ℕ, ◌≤◌, ◌<◌, ◌-◌, ◌+◌, ◌*◌, ◌/◌, ◌≡◌, Bool, true, false, List, length, take, drop, get_or, eqb, leb, refl, sym, ap, ◌∙◌, arith, length-drop}
+use Rattle.std.proofs.Math.Seq.{take_all}
+use borrow.Author.Tests.{le-leb, lt-leb, leb-true, eq-eqb, ne_eqb}
 use Rattle.lines.specs.Line.{choose, number}
 use Rattle.numbers.specs.code.Numbers.{read_bytes, byte_at, number_of}
 use Rattle.numbers.proofs.Laws.{read_length, read_drop, number_read}
@@ -43,13 +38,16 @@ module _ (bs : List ℕ) where
         let to = rw kind at (le-leb k 8 j) in
         record { by_count = λ t. simp (e, p, kind, t, from, to) }
 
-    pub no_kind : get_or bs 0 0 ≡ 0x12 → k < 1 → Wrong ≡ frame_of bs
+    -- a kind that the table of kinds does not have
+    pub no_kind : get_or bs 0 0 ≡ 0x12 → (1 ≤ k → k ≤ 8 → ⊥) → Wrong ≡ frame_of bs
     unfolding frame_of known
-    no_kind t h = simp (t, rw kind at (lt-leb 1 k h))
-
-    pub no_such_kind : get_or bs 0 0 ≡ 0x12 → 1 ≤ k → 8 < k → Wrong ≡ frame_of bs
-    unfolding frame_of known
-    no_such_kind t j h = simp (t, rw kind at (le-leb 1 k j), rw kind at (lt-leb k 8 h))
+    no_kind t h = go (leb 1 k) refl
+      where
+        go : (b : Bool) → leb 1 k ≡ b → Wrong ≡ frame_of bs
+        go false e = simp (t, rw kind at e)
+        go true e =
+            let above : 8 < k = omega (arith, h (leb-true 1 k e)) in
+            simp (t, rw kind at e, rw kind at (lt-leb k 8 above))
 
   pub no_tag : {t : ℕ} → t ≡ get_or bs 0 0 → (t ≡ 0x12 → ⊥) → (t ≡ 0x11 → ⊥) → (t ≡ 0x1f → ⊥) → (t ≡ 0x10 → ⊥)
       → Wrong ≡ frame_of bs

@@ -69,32 +69,16 @@ pub fn read_frame(chars: &[u8]) -> Frame
     ensures { result ≡ frame_of (read_bytes chars.now) }
 {
     let count = chars.len() / 2;
-    let tag = byte(chars, 0);
-    if tag == TERM_FRAME {
-        return read_term(chars);
-    }
-    if tag == DEFINITION_FRAME {
-        if count != 2 {
-            return Frame::Wrong;
-        }
-        return Frame::Definition(byte(chars, 1));
-    }
-    if tag == TABLE_END_FRAME {
-        if count != 3 {
-            return Frame::Wrong;
-        }
-        return Frame::Closing(number(&chars[2..]));
-    }
-    if tag != TABLE_FRAME {
-        return Frame::Wrong;
-    }
-    if count != 4 {
-        return Frame::Wrong;
-    }
-    Frame::Opening {
-        edition: byte(chars, 1),
-        definitions: byte(chars, 2),
-        events: byte(chars, 3),
+    match byte(chars, 0) {
+        TERM_FRAME => read_term(chars),
+        DEFINITION_FRAME if count == 2 => Frame::Definition(byte(chars, 1)),
+        TABLE_END_FRAME if count == 3 => Frame::Closing(number(&chars[2..])),
+        TABLE_FRAME if count == 4 => Frame::Opening {
+            edition: byte(chars, 1),
+            definitions: byte(chars, 2),
+            events: byte(chars, 3),
+        },
+        _ => Frame::Wrong,
     }
 }
 
@@ -105,14 +89,8 @@ fn read_term(chars: &[u8]) -> Frame
 {
     let count = chars.len() / 2;
     let kind = byte(chars, 1);
-    if kind < 1 {
-        return Frame::Wrong;
-    }
-    if 8 < kind {
-        return Frame::Wrong;
-    }
-    let want = 2 + payload_bytes(kind) as usize;
-    if count != want {
+    let want = 2 + usize::from(payload_bytes(kind));
+    if !(1..=8).contains(&kind) || count != want {
         return Frame::Wrong;
     }
     Frame::Term {
@@ -125,9 +103,5 @@ fn read_term(chars: &[u8]) -> Frame
 pub fn closes(frame: Frame) -> bool
     ensures { result ≡ table.closes frame }
 {
-    if let Frame::Closing(_) = frame {
-        true
-    } else {
-        false
-    }
+    matches!(frame, Frame::Closing(_))
 }

@@ -1,14 +1,13 @@
 -- The lines that are put, frame by frame: what a frame is made of, put one behind another, is its line. The place
 -- that a mark tells is what `places::place` answered with what it left in front of the lent path, so a node's line
 -- is its frame's. A cursor goes as far as the lines in front of it are long. Assumes nothing.
-use Prim.Native.Nat.{ℕ, zero, suc, ◌+◌, ◌*◌, ◌-◌, ◌≤◌, ◌<◌}
-use mathlib.Core.Path.{◌≡◌, refl, ap, ◌∙◌}
-use mathlib.Core.List.{List, [], ◌∷◌, ◌++◌, map}
-use mathlib.Core.Option.{Option, none, some}
-use native.Mathlib.Omega.{arith}
-use native.Mathlib.Numerals.{add-one}
-use lib.ListN.{length, take, get_or, length-take}
-use lib.Seq.{sets, sets-eq, length-sets, take_at, slice, slice-cons, slice_empty}
+use Rattle.std.proofs.Common.{◌≡◌, ℕ, zero, suc, ◌+◌, ◌-◌, ◌*◌, ◌<◌, ◌≤◌, List, [], ◌∷◌, ◌++◌, map, length}
+use Rattle.std.proofs.Common.{get_or, take, drop, refl, ap, ◌∙◌, add-one, arith, drop_of_length-le}
+use Rattle.std.proofs.Common.{length-take, drop-cons, take_at}
+use Rattle.std.proofs.Math.Option.{Option, none, some}
+use Rattle.std.proofs.Math.Seq.{length-sets}
+use Rattle.std.proofs.lemmas.List.Edits.{sets, sets-eq}
+use Rattle.std.specs.Prelude as std
 use Rattle.lines.specs.Line.{two, hex, text, LF}
 use Rattle.spelling.specs.words.Puts.{Puts}
 use Rattle.spelling.proofs.Putting.{puts_then, Owed, owed_all, owed_less, owed_none}
@@ -79,9 +78,9 @@ pairs_owed k base g n = let z : n - 0 ≡ n = omega arith in rw z owed_all
 
 module _ {xs s t : List ℕ} {a b : ℕ} where
   -- behind the last digit, or the last of n pairs, all is put
-  pub digits_put : (ps : List ℕ) (i n : ℕ) → i ≤ n → n ≤ i → Owed xs a s (hex (slice i n ps)) b t → Puts a xs s t b
+  pub digits_put : (ds : List ℕ) (i : ℕ) → length ds ≤ i → Owed xs a s (hex (drop i ds)) b t → Puts a xs s t b
   unfolding hex
-  digits_put ps i n h k o = let e : i ≡ n = omega arith in owed_none (rw (e, slice_empty n ps) at o)
+  digits_put ds i h o = owed_none (rw (drop_of_length-le ds {i = i} h) at o)
 
   pub pairs_put : (k base : ℕ) (g : List ℕ) (i n : ℕ) → n ≤ i
       → Owed xs a s (text (map (pair_frame k) (pairs base g i (n - i)))) b t
@@ -91,11 +90,11 @@ module _ {xs s t : List ℕ} {a b : ℕ} where
 
 module _ {xs s t u : List ℕ} {a b e : ℕ} where
   -- a digit of a path less is owed
-  pub digit_less : (ps : List ℕ) (i n : ℕ) → i < n → n ≤ length ps → Owed xs a s (hex (slice i n ps)) b t
-      → Puts b (hex (get_or ps i 0 ∷ [])) t u e
-      → Owed xs a s (hex (slice (i + 1) n ps)) e u
+  pub digit_less : (ds : List ℕ) (i : ℕ) → i < length ds → Owed xs a s (hex (drop i ds)) b t
+      → Puts b (hex (get_or ds i 0 ∷ [])) t u e
+      → Owed xs a s (hex (drop (i + 1) ds)) e u
   unfolding hex
-  digit_less ps i n h k o p = rw add-one (owed_less (rw (slice-cons i n ps 0 h k) at o) p)
+  digit_less ds i h o p = rw add-one (owed_less (rw (drop-cons ds i 0 h) at o) p)
 
   -- a pair less of n
   pub pair_less : (k base : ℕ) (g : List ℕ) (i n x y : ℕ) → i < n → x ≡ track_word g (base + 2 * i)
@@ -122,7 +121,7 @@ pairs_long k base g i n = pairs_length k (pairs base g i n) ∙ ap (λ (m : ℕ)
 told_found : (d : ℕ) (o : Option (List ℕ))
     → (told_length (told d o) ≡ length (found d o).path) × (told_definition (told d o) ≡ (found d o).definition)
     × (digits o ≡ (found d o).path)
-unfolding told found digits told_length told_definition
+unfolding told found digits
 told_found d none = (refl, refl, refl)
 told_found d (some w) = (refl, refl, refl)
 
@@ -132,7 +131,7 @@ path_in_front ps ws e h = rw (sets-eq ws ps 0 (omega arith)) (take_at ws _ (leng
 
 module _ (c : Columns) where
   -- an answer's path has at most 64 digits
-  pub answer_short : (a : Literal) (r : Placed) → r ≡ answer c a → told_length r ≤ 64
+  pub answer_short : (a : Literal) (r : std.Option Placed) → r ≡ answer c a → told_length r ≤ 64
   unfolding answer place_of
   answer_short a r e =
       rw (e, (told_found (literal_definition c a) (literal_path c a)).0) (place_short c a)
@@ -143,7 +142,7 @@ module _ (c : Columns) where
   path_kept a ps qs e q = ap length q ∙ length-sets ps 0 (digits (literal_path c a)) ∙ e
 
   -- an answer with the path in front tells the frame of the place
-  node_told : (k : ℕ) (a : Literal) (r : Placed) (ps qs : List ℕ) → length ps ≡ 64 → r ≡ answer c a
+  node_told : (k : ℕ) (a : Literal) (r : std.Option Placed) (ps qs : List ℕ) → length ps ≡ 64 → r ≡ answer c a
       → qs ≡ sets ps 0 (digits (literal_path c a))
       → 0x31 ∷ two k ++ (told_definition r ∷ told_length r ∷ take (told_length r) qs)
       ≡ node_frame (record { reference = k; place = place_of c a })
@@ -165,7 +164,7 @@ module _ (c : Columns) where
     nodes_put k n h o = let z : n - k ≡ 0 = omega arith in owed_none (rw z at o)
 
     -- a node less of n
-    pub node_less : {xs s t u : List ℕ} {a b e : ℕ} (k n : ℕ) (l : Literal) (r : Placed) (ps qs : List ℕ) → k < n
+    pub node_less : {xs s t u : List ℕ} {a b e : ℕ} (k n : ℕ) (l : Literal) (r : std.Option Placed) (ps qs : List ℕ) → k < n
         → l ≡ literal (at ms k)
         → length ps ≡ 64
         → r ≡ answer c l
@@ -196,7 +195,7 @@ module _ (c : Columns) where
         omega (arith, node_long k n, place_short c (literal (at ms k)), nodes_short (suc k) n)
 
     -- the length of the lines from node k on is that of its line and of those behind it
-    pub node_longer : (k n : ℕ) (l : Literal) (r : Placed) → k < n → l ≡ literal (at ms k) → r ≡ answer c l
+    pub node_longer : (k n : ℕ) (l : Literal) (r : std.Option Placed) → k < n → l ≡ literal (at ms k) → r ≡ answer c l
         → length (text (map node_frame (labels_told c ms k (n - k))))
         ≡ 11 + 2 * told_length r + length (text (map node_frame (labels_told c ms (k + 1) (n - (k + 1)))))
     unfolding answer place_of

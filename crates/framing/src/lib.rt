@@ -53,8 +53,7 @@ pub fn put_pairs(
     ensures value { result ≡ from + 11 * count }
 {
     let mut at = from;
-    let mut i: usize = 0;
-    while i < count {
+    for i in 0..count {
         let word = base + 2 * i;
         at = put_pair(
             code,
@@ -63,7 +62,6 @@ pub fn put_pairs(
             at,
             out,
         );
-        i += 1;
     }
     at
 }
@@ -112,8 +110,7 @@ pub fn nodes_length(
 {
     let mut path = [0u8; PATH_ROOM];
     let mut length: usize = 0;
-    let mut k: usize = 0;
-    while k < count {
+    for k in 0..count {
         let placed = place(
             literal_of(reference_word(k, labels)),
             kinds,
@@ -123,7 +120,6 @@ pub fn nodes_length(
             &mut path,
         );
         length += NODE_LINE + 2 * path_length(placed);
-        k += 1;
     }
     length
 }
@@ -147,8 +143,7 @@ pub fn put_nodes(
 {
     let mut path = [0u8; PATH_ROOM];
     let mut at = from;
-    let mut k: usize = 0;
-    while k < count {
+    for k in 0..count {
         let placed = place(
             literal_of(reference_word(k, labels)),
             kinds,
@@ -158,13 +153,12 @@ pub fn put_nodes(
             &mut path,
         );
         at = put_node(k, placed, &path, at, out);
-        k += 1;
     }
     at
 }
 
 // Puts a node's line: `31 iiii dd ll path`.
-fn put_node(number: usize, placed: Placed, path: &Path, at: usize, out: &mut [u8]) -> usize
+fn put_node(number: usize, placed: Option<Placed>, path: &Path, at: usize, out: &mut [u8]) -> usize
     requires { (length path.now ≡ path_room) × (told_length placed ≤ path_room) × (at ≤ line_cursor) }
     ensures { Puts at (text ((0x31 ∷ two number ++ (told_definition placed ∷ told_length placed
         ∷ take (told_length placed) path.now)) ∷ [])) out.old out.new result }
@@ -184,36 +178,22 @@ fn put_path(path: &Path, count: usize, from: usize, out: &mut [u8]) -> usize
     ensures { Puts from (hex (take count path.now)) out.old out.new result }
 {
     let mut at = from;
-    let mut i: usize = 0;
-    while i < count {
-        at = put_byte(at, path[i], out);
-        i += 1;
+    for &digit in &path[..count] {
+        at = put_byte(at, digit, out);
     }
     at
 }
 
 // How many digits a place's path has.
-fn path_length(placed: Placed) -> usize
+fn path_length(placed: Option<Placed>) -> usize
     ensures { result ≡ told_length placed }
 {
-    match placed {
-        Placed::At {
-            definition: _,
-            length,
-        } => length,
-        Placed::Nowhere => 0,
-    }
+    placed.map_or(0, |place| place.length)
 }
 
 // The definition of a place.
-fn definition_of(placed: Placed) -> u8
+fn definition_of(placed: Option<Placed>) -> u8
     ensures { result ≡ told_definition placed }
 {
-    match placed {
-        Placed::At {
-            definition,
-            length: _,
-        } => definition,
-        Placed::Nowhere => NOWHERE,
-    }
+    placed.map_or(NOWHERE, |place| place.definition)
 }

@@ -2,15 +2,15 @@
 -- Lines are counted byte by byte: a byte that is no LF makes the first line one longer, an LF ends a line, and
 -- the text's first two bytes tell whether the first line starts `1f` or `1F`. Assumes nothing.
 use Prim.Native.Nat.{ℕ, zero, suc, ◌+◌, ◌-◌, ◌≤◌, ◌<◌, min}
-use mathlib.Core.Path.{◌≡◌, refl, sym, ap, ◌∙◌}
+use Rattle.std.proofs.Common.{◌≡◌, refl, sym, ap, ◌∙◌, cond, not, Some, None}
+use Rattle.std.specs.List.{position, position_or_len}
 use mathlib.Core.Bool.{Bool, true, false, ◌||◌}
 use mathlib.Core.List.{List, [], ◌∷◌}
 use native.Mathlib.Omega.{arith}
-use native.Mathlib.Numerals.{add-one, one-add}
 use lib.ListN.{length, take, drop, get_or, length-drop, drop_of_length-le}
-use lib.Dec.{eqb}
+use lib.Dec.{eqb, ltb}
 use lib.Seq.{take-nil, take-length, take_all, drop-drop, drop-cons}
-use borrow.Author.Tests.{eqb-true, eq-eqb, ne_eqb}
+use borrow.Author.Tests.{eqb-true, ltb-true, ltb-false}
 use Rattle.lines.specs.Line.{choose, LF, Raw, full, open_ended, before, lines, characters}
 use Rattle.inputs.specs.Cut.{one, f, capital_f, starts_1f, extent, table_length}
 use Rattle.inputs.specs.code.Lengths.{line_length}
@@ -173,52 +173,57 @@ module _ (t : List ℕ) (at : ℕ) where
   unfolding lines table_length
   table_over h = rw (drop_of_length-le t h)
 
--- what is left of a text's first line from a place on
-module _ (t : List ℕ) (i : ℕ) where
-  -- nothing at the end of the text
-  pub line_over : length t ≤ i → line_length (drop i t) ≡ 0
-  unfolding line_length
-  line_over h = rw (drop_of_length-le t h)
+-- a text's first line ends with its first LF, or with the text
+abbrev is_feed : ℕ → Bool
+is_feed c = eqb c LF
 
-  -- one byte where the LF stands
-  pub line_ends : i < length t → get_or t i 0 ≡ LF → line_length (drop i t) ≡ 1
-  unfolding line_length
-  line_ends h e = rw (drop-cons t i 0 h) (simp (eq-eqb _ LF e))
+line_to_feed : (t : List ℕ) → position_or_len is_feed t < length t → position_or_len is_feed t + 1 ≡ line_length t
+unfolding line_length
+line_to_feed [] h = absurd (omega arith)
+line_to_feed (c ∷ t) h = go (eqb c LF) (line_to_feed t) h
+  where
+    go : (b : Bool) → (position_or_len is_feed t < length t → position_or_len is_feed t + 1 ≡ line_length t)
+        → cond (not b) (1 + position_or_len is_feed t) 0 < length (c ∷ t)
+        → cond (not b) (1 + position_or_len is_feed t) 0 + 1 ≡ suc (choose b 0 (line_length t))
+    go true further h = refl
+    go false further h = omega (arith, further)
 
-  -- one more than behind any other byte
-  pub line_goes_on : i < length t → (get_or t i 0 ≡ LF → ⊥)
-      → line_length (drop i t) ≡ 1 + line_length (drop (i + 1) t)
-  unfolding line_length
-  line_goes_on h e = rw (drop-cons t i 0 h) (simp (ne_eqb _ LF e, add-one, one-add))
+line_to_end : (t : List ℕ) → length t ≤ position_or_len is_feed t → length t ≡ line_length t
+unfolding line_length
+line_to_end [] h = refl
+line_to_end (c ∷ t) h = go (eqb c LF) (line_to_end t) h
+  where
+    go : (b : Bool) → (length t ≤ position_or_len is_feed t → length t ≡ line_length t)
+        → length (c ∷ t) ≤ cond (not b) (1 + position_or_len is_feed t) 0 → length (c ∷ t) ≡ suc (choose b 0 (line_length t))
+    go true further h = absurd (omega arith)
+    go false further h = omega (arith, further)
 
--- a text of less than two bytes does not start `1f`
+module _ (t : List ℕ) where
+  pub line_found : (k : ℕ) → Some k ≡ position is_feed t → k + 1 ≡ line_length t
+  line_found k e = go (ltb (position_or_len is_feed t) (length t)) refl e
+    where
+      go : (b : Bool) → ltb (position_or_len is_feed t) (length t) ≡ b → Some k ≡ cond b (Some (position_or_len is_feed t)) None
+          → k + 1 ≡ line_length t
+      go true q e = let n : k ≡ position_or_len is_feed t = cc in rw n (line_to_feed t (ltb-true _ (length t) q))
+      go false q e = cc
+
+  pub line_unended : None ≡ position is_feed t → length t ≡ line_length t
+  line_unended e = go (ltb (position_or_len is_feed t) (length t)) refl e
+    where
+      go : (b : Bool) → ltb (position_or_len is_feed t) (length t) ≡ b → None ≡ cond b (Some (position_or_len is_feed t)) None
+          → length t ≡ line_length t
+      go true q e = cc
+      go false q e = line_to_end t (ltb-false _ (length t) q)
+
+-- a text of less than two bytes does not start `1f`; of any other its first two bytes tell
 pub starts_short : (t : List ℕ) → length t < 2 → false ≡ starts_1f t
 unfolding starts_1f
 starts_short [] h = refl
 starts_short (c ∷ []) h = refl
 starts_short (c ∷ d ∷ t) h = absurd (omega arith)
 
--- nor does one whose first byte is no `1`
-pub starts_other : (t : List ℕ) → (get_or t 0 0 ≡ one → ⊥) → false ≡ starts_1f t
+pub starts_told : (t : List ℕ) → 2 ≤ length t → choose (eqb (get_or t 0 0) one) (eqb (get_or t 1 0) f || eqb (get_or t 1 0) capital_f) false ≡ starts_1f t
 unfolding starts_1f
-starts_other [] e = refl
-starts_other (c ∷ []) e = refl
-starts_other (c ∷ d ∷ t) e = simp (ne_eqb c one e)
-
--- and behind a `1` the second byte tells
-module _ (t : List ℕ) (h : 2 ≤ length t) (e : get_or t 0 0 ≡ one) where
-  starts_one : eqb (get_or t 1 0) f || eqb (get_or t 1 0) capital_f ≡ starts_1f t
-  unfolding starts_1f
-  starts_one = go t h e
-    where
-      go : (t : List ℕ) → 2 ≤ length t → get_or t 0 0 ≡ one
-          → eqb (get_or t 1 0) f || eqb (get_or t 1 0) capital_f ≡ starts_1f t
-      go [] h e = absurd (omega arith)
-      go (c ∷ []) h e = absurd (omega arith)
-      go (c ∷ d ∷ t) h e = simp (eq-eqb c one e)
-
-  pub starts_small : get_or t 1 0 ≡ f → true ≡ starts_1f t
-  starts_small q = rw (eq-eqb _ f q) at starts_one
-
-  pub starts_capital : (get_or t 1 0 ≡ f → ⊥) → eqb (get_or t 1 0) capital_f ≡ starts_1f t
-  starts_capital q = rw (ne_eqb _ f q) at starts_one
+starts_told [] h = absurd (omega arith)
+starts_told (c ∷ []) h = absurd (omega arith)
+starts_told (c ∷ d ∷ t) h = refl

@@ -5,11 +5,10 @@
 
 mod words;
 
-use frames::{DEFINITION_ROOM, TERM_ROOM};
-use inputs::{input_room, table_end};
+use inputs::{input_room, table_and_script};
+use loaded::Table;
 use standard_input::read_full;
 use std::io;
-use tables::{Checked, check};
 use words::{say_refusal, say_script, say_table};
 
 fn main(rt: HostRuntime) -> io::Result<()> {
@@ -19,26 +18,14 @@ fn main(rt: HostRuntime) -> io::Result<()> {
 }
 
 // Judges the table's text, and behind it the script.
-fn judge(rt: &impl Print, text: &[u8]) -> io::Result<()> {
-    let mut kinds = [0u8; TERM_ROOM];
-    let mut payloads = [0u64; TERM_ROOM];
-    let mut owners = [0u8; TERM_ROOM];
-    let mut after = [0u16; TERM_ROOM];
-    let mut roots = [0u16; DEFINITION_ROOM];
-    let end = table_end(text);
-    let checked = check(
-        &text[..end],
-        &mut kinds,
-        &mut payloads,
-        &mut owners,
-        &mut after,
-        &mut roots,
-    );
-    match checked {
-        Checked::Refused { number, line } => say_refusal(rt, b"table", number, line),
-        Checked::Accepted(counts) => {
-            say_table(rt, counts, &kinds, &payloads, &owners, &after, &roots)?;
-            say_script(rt, &text[end..])
+fn judge(rt: &impl Print, input: &[u8]) -> io::Result<()> {
+    let (text, script) = table_and_script(input);
+    let mut table = Table::new();
+    match table.check(text) {
+        Err(refused) => say_refusal(rt, "table", refused),
+        Ok(counts) => {
+            say_table(rt, counts, &table)?;
+            say_script(rt, script)
         }
     }
 }

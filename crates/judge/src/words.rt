@@ -1,209 +1,105 @@
 // What was judged, in words, a line each.
-use columns::{After, Kinds, Owners, Payloads, Roots};
-use frames::PATH_ROOM;
-use places::{Literal, Path, Placed, place};
-use scripts::{DIGIT_ROOM, Digits, SCRIPT_TEXT_ROOM, ScriptStep, next_step};
+use columns::{after_of, kind_of, payload_of};
+use frames::{DEFINITION_ROOM, PATH_ROOM};
+use kinds::PREFIX;
+use lines::{Refusal, RefusedAt};
+use loaded::Table;
+use places::{Literal, Placed};
+use scripts::{Address, DIGIT_ROOM, SCRIPT_TEXT_ROOM, next_step};
 use std::io;
 use tables::TableCounts;
 
 // The refusal that ends the work.
-pub fn say_refusal(rt: &impl Print, what: &[u8], number: u8, line: usize) -> io::Result<()> {
-    rt.write_all(what)?;
-    println!(rt; " refused {number} at line {line}")
+pub fn say_refusal(rt: &impl Print, what: &str, refused: RefusedAt) -> io::Result<()> {
+    let number = refused.refusal.number();
+    let line = refused.line;
+    println!(rt; "{what} refused {number} at line {line}")
 }
 
 // What a table holds: its counts, its left-hand sides and its terms.
-pub fn say_table(
-    rt: &impl Print,
-    counts: TableCounts,
-    kinds: &Kinds,
-    payloads: &Payloads,
-    owners: &Owners,
-    after: &After,
-    roots: &Roots,
-) -> io::Result<()> {
-    rt.write_all(b"table accepted")?;
-    say_number(rt, counts.definitions as u64)?;
-    say_number(rt, counts.events as u64)?;
-    say_number(rt, counts.terms as u64)?;
-    end_line(rt)?;
-    say_lefts(rt, counts.definitions, kinds, owners, after, roots)?;
-    say_terms(rt, counts.terms, kinds, payloads, owners, after, roots)
+pub fn say_table(rt: &impl Print, counts: TableCounts, table: &Table) -> io::Result<()> {
+    let TableCounts {
+        definitions,
+        events,
+        terms,
+    } = counts;
+    println!(rt; "table accepted {definitions} {events} {terms}")?;
+    say_lefts(rt, definitions, table)?;
+    say_terms(rt, terms, table)
 }
 
-fn say_lefts(
-    rt: &impl Print,
-    count: usize,
-    kinds: &Kinds,
-    owners: &Owners,
-    after: &After,
-    roots: &Roots,
-) -> io::Result<()> {
-    let mut d: u8 = 0;
-    while d < 64 {
-        if count <= d as usize {
-            return Ok(());
-        }
-        say_left(rt, d, kinds, owners, after, roots)?;
-        d += 1;
+fn say_lefts(rt: &impl Print, count: usize, table: &Table) -> io::Result<()> {
+    for definition in (0..DEFINITION_ROOM as u8).take(count) {
+        print!(rt; "left {definition} at")?;
+        say_place(rt, Literal::Left(definition), table)?;
+        println!(rt)?;
     }
     Ok(())
 }
 
-fn say_left(
-    rt: &impl Print,
-    d: u8,
-    kinds: &Kinds,
-    owners: &Owners,
-    after: &After,
-    roots: &Roots,
-) -> io::Result<()> {
-    print!(rt; "left {d} at")?;
-    say_place(rt, Literal::Left(d), kinds, owners, after, roots)?;
-    end_line(rt)
-}
-
-fn say_terms(
-    rt: &impl Print,
-    count: usize,
-    kinds: &Kinds,
-    payloads: &Payloads,
-    owners: &Owners,
-    after: &After,
-    roots: &Roots,
-) -> io::Result<()> {
-    let mut n = 0;
-    while n < 1024 {
-        if count <= n {
-            return Ok(());
-        }
-        say_term(rt, n, kinds[n], payloads[n], after[n])?;
-        rt.write_all(b" at")?;
-        say_place(rt, Literal::Own(n), kinds, owners, after, roots)?;
-        say_event(rt, n, kinds[n], kinds, owners, after, roots)?;
-        end_line(rt)?;
-        n += 1;
+fn say_terms(rt: &impl Print, count: usize, table: &Table) -> io::Result<()> {
+    for n in 0..count {
+        say_term(rt, n, table)?;
     }
     Ok(())
 }
 
-fn say_term(rt: &impl Print, n: usize, kind: u8, payload: u64, after: u16) -> io::Result<()> {
-    print!(rt; "term {n} kind {kind} payload {payload:x} after {after}")
-}
-
-// The event of a prefix.
-fn say_event(
-    rt: &impl Print,
-    n: usize,
-    kind: u8,
-    kinds: &Kinds,
-    owners: &Owners,
-    after: &After,
-    roots: &Roots,
-) -> io::Result<()> {
-    if kind == 2 {
-        rt.write_all(b" event")?;
-        say_place(rt, Literal::Event(n), kinds, owners, after, roots)?;
+// A term, with the place of its own literal, and of a prefix's event.
+fn say_term(rt: &impl Print, n: usize, table: &Table) -> io::Result<()> {
+    let kind = kind_of(n, &table.kinds);
+    let payload = payload_of(n, &table.payloads);
+    let after = after_of(n, &table.after);
+    print!(rt; "term {n} kind {kind} payload {payload:x} after {after} at")?;
+    say_place(rt, Literal::Own(n), table)?;
+    if kind == PREFIX {
+        print!(rt; " event")?;
+        say_place(rt, Literal::Event(n), table)?;
     }
-    Ok(())
+    println!(rt)
 }
 
 // The place of a literal: its definition and its path.
-fn say_place(
-    rt: &impl Print,
-    literal: Literal,
-    kinds: &Kinds,
-    owners: &Owners,
-    after: &After,
-    roots: &Roots,
-) -> io::Result<()> {
+fn say_place(rt: &impl Print, literal: Literal, table: &Table) -> io::Result<()> {
     let mut path = [0u8; PATH_ROOM];
-    let placed = place(literal, kinds, owners, after, roots, &mut path);
-    match placed {
-        Placed::At { definition, length } => {
-            say_number(rt, definition as u64)?;
-            say_gap(rt, length)?;
-            say_path(rt, &path, length)
+    match table.place(literal, &mut path) {
+        Some(Placed { definition, length }) => {
+            print!(rt; " {definition}")?;
+            say_digits(rt, &path, length)
         }
-        Placed::Nowhere => rt.write_all(b" nowhere"),
+        None => print!(rt; " nowhere"),
     }
 }
 
 // What each line of a script asks for, up to the first that is refused.
 pub fn say_script(rt: &impl Print, script: &[u8]) -> io::Result<()> {
     if SCRIPT_TEXT_ROOM < script.len() {
-        return say_refusal(rt, b"script", 6, 0);
+        return say_refusal(rt, "script", Refusal::TextOverRoom.at(0));
     }
     let mut digits = [0u8; DIGIT_ROOM];
     let mut at = 0;
-    let mut line: usize = 1;
-    while line <= SCRIPT_TEXT_ROOM {
-        let step = next_step(script, at, &mut digits);
-        let ScriptStep::Address { count, next } = step else {
-            return say_end(rt, step, line);
-        };
-        say_step(rt, line, count, &digits)?;
-        at = next;
-        line += 1;
+    for line in 1..=SCRIPT_TEXT_ROOM {
+        match next_step(script, at, &mut digits) {
+            Ok(Some(Address { count, next })) => {
+                print!(rt; "step {line}")?;
+                say_digits(rt, &digits, count)?;
+                println!(rt)?;
+                at = next;
+            }
+            Ok(None) => return Ok(()),
+            Err(refusal) => return say_refusal(rt, "script", refusal.at(line)),
+        }
     }
     Ok(())
 }
 
-fn say_end(rt: &impl Print, step: ScriptStep, line: usize) -> io::Result<()> {
-    if let ScriptStep::Refused(number) = step {
-        say_refusal(rt, b"script", number, line)?;
-    }
-    Ok(())
-}
-
-fn say_step(rt: &impl Print, line: usize, count: usize, digits: &Digits) -> io::Result<()> {
-    print!(rt; "step {line}")?;
-    say_gap(rt, count)?;
-    say_address(rt, digits, count)?;
-    end_line(rt)
-}
-
-// Before digits: a blank, and a dash where there are none.
-fn say_gap(rt: &impl Print, count: usize) -> io::Result<()> {
+// The first digits of an array behind a blank, and a dash where there are none.
+fn say_digits(rt: &impl Print, digits: &[u8], count: usize) -> io::Result<()> {
     if count == 0 {
-        rt.write_all(b" -")
-    } else {
-        rt.write_all(b" ")
+        return print!(rt; " -");
     }
-}
-
-fn say_path(rt: &impl Print, path: &Path, count: usize) -> io::Result<()> {
-    let mut i = 0;
-    while i < 64 {
-        if count <= i {
-            return Ok(());
-        }
-        say_digit(rt, path[i])?;
-        i += 1;
+    print!(rt; " ")?;
+    for digit in digits.iter().take(count) {
+        print!(rt; "{digit}")?;
     }
     Ok(())
-}
-
-fn say_address(rt: &impl Print, digits: &Digits, count: usize) -> io::Result<()> {
-    let mut i = 0;
-    while i < 1024 {
-        if count <= i {
-            return Ok(());
-        }
-        say_digit(rt, digits[i])?;
-        i += 1;
-    }
-    Ok(())
-}
-
-fn say_digit(rt: &impl Print, digit: u8) -> io::Result<()> {
-    print!(rt; "{digit}")
-}
-
-fn say_number(rt: &impl Print, n: u64) -> io::Result<()> {
-    print!(rt; " {n}")
-}
-
-fn end_line(rt: &impl Print) -> io::Result<()> {
-    rt.write_all(b"\n")
 }

@@ -30,16 +30,12 @@ const SUBTERMS: [u8; 9] = [0, 0, 1, 2, 2, 2, 2, 0, 0];
 pub fn payload_bytes(kind: u8) -> u8
     ensures { result ≡ Kinds.payload_bytes kind }
 {
-    if kind < 9 {
-        PAYLOAD_BYTES[kind as usize]
-    } else {
-        0
-    }
+    PAYLOAD_BYTES.get(usize::from(kind)).copied().unwrap_or(0)
 }
 
 // The subterms of a term; 0 where there is no such kind.
 pub fn subterms(kind: u8) -> u8
     ensures { result ≡ Kinds.subterms kind }
 {
-    if kind < 9 { SUBTERMS[kind as usize] } else { 0 }
+    SUBTERMS.get(usize::from(kind)).copied().unwrap_or(0)
 }

@@ -42,7 +42,7 @@ impl<'a> LineReader<'a> {
     }
 }
 
-// What stands at a place of a text, by the finder of its lines.
+// What stands at a place of a text, by the finder of its lines: a line for each, which a trait or a closure would make no plainer.
 fn find(text: &[u8], from: usize, spelling: Spelling) -> Line
     ensures { result ≡ answer_by spelling from (lines (drop from text.now)) }
 {

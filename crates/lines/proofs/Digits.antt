@@ -5,13 +5,11 @@ use Prim.Native.Nat.{ℕ, suc, ◌≤◌, ◌<◌, ◌+◌, ◌*◌, ◌%◌}
 use mathlib.Core.Path.{◌≡◌, refl, ap, ◌∙◌}
 use mathlib.Core.Bool.{Bool, true, false, ◌&&◌}
 use mathlib.Core.List.{List, [], ◌∷◌, ◌++◌}
-use mathlib.Core.Option.{Option, none, some}
+use Rattle.std.proofs.Math.Option.{Option, none, some}
 use native.Mathlib.Omega.{arith}
-use native.Mathlib.Numerals.{add-one, one-add}
-use lib.ListN.{length, drop, get_or, drop_of_length-le}
+use lib.ListN.{length}
 use lib.Dec.{leb, ltb, eqb}
-use lib.Seq.{drop-cons}
-use borrow.Author.Tests.{le-leb, lt-leb, leb-true, leb-false, ne_eqb, lt-ltb, ltb-true}
+use borrow.Author.Tests.{leb-true, leb-false, ne_eqb, lt-ltb, ltb-true}
 use Rattle.lines.specs.Line.{choose, digit, Raw, full, open_ended, before, lines, pair, bytes, frame}
 use Rattle.lines.specs.Line.{characters, LF}
 use Rattle.lines.specs.code.Characters.{run}
@@ -20,19 +18,6 @@ use Rattle.lines.specs.code.Characters.{run}
 pub both : (a b : Bool) → a && b ≡ true → (a ≡ true) × (b ≡ true)
 both true b e = (refl, e)
 both false b e = let z : ◌≡◌ {A = ℕ} 0 1 = cc in absurd (omega arith)
-
-module _ (s : List ℕ) (i : ℕ) where
-  pub run_end : length s ≤ i → run (drop i s) ≡ 0
-  unfolding run
-  run_end h = rw (drop_of_length-le s h)
-
-  pub run_stop : i < length s → 16 ≤ digit (get_or s i 0) → run (drop i s) ≡ 0
-  unfolding run
-  run_stop h e = rw (drop-cons s i 0 h) (simp (le-leb 16 _ e))
-
-  pub run_more : i < length s → digit (get_or s i 0) < 16 → run (drop i s) ≡ 1 + run (drop (i + 1) s)
-  unfolding run
-  run_more h e = rw (drop-cons s i 0 h) (simp (lt-leb 16 _ e, add-one, one-add))
 
 -- LF is no digit
 pub digit_LF : digit LF ≡ 16

@@ -8,9 +8,9 @@ use mathlib.Core.List.{List, [], ◌∷◌, ◌++◌, append-nil}
 use mathlib.Core.Option.{Option, none, some}
 use native.Mathlib.Omega.{arith}
 use lib.ListN.{length, take, drop, get_or, length-append, length-take, length-drop, drop_of_length-le}
-use lib.Dec.{eqb}
+use lib.Dec.{eqb, ltb}
 use lib.Seq.{drop-cons, drop-append_seam, drop-append-add, take-append_seam, drop-drop, drop-length, take-nil}
-use borrow.Author.Tests.{le-leb, lt-leb, eqb-true, ne_eqb}
+use borrow.Author.Tests.{le-leb, lt-leb, eqb-true, ne_eqb, ltb-true, ltb-false}
 use Rattle.lines.specs.Line.{choose, digit, Raw, full, open_ended, before, lines, bytes, frame}
 use Rattle.lines.specs.Line.{characters, LF, seen, Form, strict_form, answer_of, answer}
 use Rattle.lines.specs.code.Characters.{run, part}
@@ -75,7 +75,7 @@ module _ (s : List ℕ) (at e : ℕ) (inside : at < length s) (end : e ≡ at + 
       let n : at + length cut.digits ≡ e = omega (arith, cut.counted) in
       sym q ∙ drop-drop (length cut.digits) at s ∙ ap (λ (k : ℕ). drop k s) n
 
-  pub answer_unended : length s ≤ e → answer at (lines (drop at s)) ≡ NoLine
+  answer_unended : length s ≤ e → answer at (lines (drop at s)) ≡ NoLine
   answer_unended h =
       let none_left : cut.rest ≡ [] = rest_is ∙ drop_of_length-le s h in
       let whole : drop at s ≡ cut.digits = cut.whole ∙ rw none_left (append-nil cut.digits) in
@@ -89,7 +89,7 @@ module _ (s : List ℕ) (at e : ℕ) (inside : at < length s) (end : e ≡ at + 
     whole_is : drop at s ≡ cut.digits ++ get_or s e 0 ∷ drop (suc e) s
     whole_is = cut.whole ∙ ap (λ (l : List ℕ). cut.digits ++ l) next_is
 
-    pub answer_no_digit : (get_or s e 0 ≡ LF → ⊥) → answer at (lines (drop at s)) ≡ NoLine
+    answer_no_digit : (get_or s e 0 ≡ LF → ⊥) → answer at (lines (drop at s)) ≡ NoLine
     answer_no_digit h =
         rw whole_is
         (answer_other at cut.digits _ _ cut.are_digits (ne_eqb _ LF h) (cut.ends _ _ next_is))
@@ -116,6 +116,14 @@ module _ (s : List ℕ) (at e : ℕ) (inside : at < length s) (end : e ≡ at + 
           let n : at + length cut.digits ≡ e = omega (arith, cut.counted) in
           let p : 0 < length cut.digits = omega (arith, count) in
           rw (line_is, answer_full at cut.digits _ b.0 cut.are_digits p b.1, n)
+
+  -- where no LF stands at the run's end there is no line
+  pub answer_no_feed : (e < length s → get_or s e 0 ≡ LF → ⊥) → answer at (lines (drop at s)) ≡ NoLine
+  answer_no_feed h = go (ltb e (length s)) refl
+    where
+      go : (b : Bool) → ltb e (length s) ≡ b → answer at (lines (drop at s)) ≡ NoLine
+      go true q = let more = ltb-true e (length s) q in answer_no_digit more (h more)
+      go false q = answer_unended (ltb-false e (length s) q)
 
 -- the first line of a text, taken off it
 abbrev pub First : List ℕ → List ℕ → List Raw → Type 0

@@ -3,38 +3,56 @@
 #![tactic(auto)]
 
 ghost use Rattle.std.specs.Prelude.{◌≡◌, ◌+◌, ◌≤◌, length, drop};
-ghost use Rattle.lines.specs.Line.{digit, lines, answer, refusal};
+ghost use Rattle.lines.specs.Line.{digit, lines, answer};
+ghost use Rattle.lines.specs.Refusal.{number, wanted};
 ghost use Rattle.lines.specs.code.Characters.{run, part};
 
 // The line feed.
 pub const LF: u8 = 10;
 
-// Document 01's numbers of refusal.
-pub const NO_LINE: u8 = 1;
+// Document 01's refusals, each by its number there.
+#[derive(Clone, Copy, PartialEq, Eq)]
+pub enum Refusal {
+    NotALine = 1,
+    WrongFrame,
+    OutOfRange,
+    Incomplete,
+    TermOverRoom,
+    TextOverRoom,
+    NoDerivation,
+    CellsOverRoom,
+    NodesOverRoom,
+    ArcsOverRoom,
+    MeetingsOverRoom,
+    SliceTooShort,
+    ShapeBroken,
+}
 
-pub const WRONG_FRAME: u8 = 2;
+impl Refusal {
+    // Document 01's number of a refusal.
+    pub fn number(self) -> u8
+        ensures { result ≡ number self }
+    {
+        self as u8
+    }
 
-pub const OUT_OF_RANGE: u8 = 3;
+    // A refusal, at a line of a text.
+    pub fn at(self, line: usize) -> RefusedAt
+        ensures { (result.refusal ≡ self) × (result.line ≡ line) }
+    {
+        RefusedAt {
+            refusal: self,
+            line,
+        }
+    }
+}
 
-pub const INCOMPLETE: u8 = 4;
-
-pub const TERM_OVER_ROOM: u8 = 5;
-
-pub const TEXT_OVER_ROOM: u8 = 6;
-
-pub const NO_DERIVATION: u8 = 7;
-
-pub const CELLS_OVER_ROOM: u8 = 8;
-
-pub const NODES_OVER_ROOM: u8 = 9;
-
-pub const ARCS_OVER_ROOM: u8 = 10;
-
-pub const MEETINGS_OVER_ROOM: u8 = 11;
-
-pub const SLICE_TOO_SHORT: u8 = 12;
-
-pub const SHAPE_BROKEN: u8 = 13;
+// A refusal, and the line of the text that it is of; line 0 where it is of the whole text.
+#[derive(Clone, Copy, PartialEq, Eq)]
+pub struct RefusedAt {
+    pub refusal: Refusal,
+    pub line: usize,
+}
 
 // What stands at a cursor: a line, whose characters run from the cursor up to `end`, with the next line from
 // `next` on; something that is no line; or the end of the text.
@@ -45,6 +63,13 @@ pub enum Line {
     End,
 }
 
+// Where a line's characters end, and where the next line begins.
+#[derive(Clone, Copy, PartialEq, Eq)]
+pub struct Span {
+    pub end: usize,
+    pub next: usize,
+}
+
 // The line finder: the next line of a text from a cursor.
 pub fn find_line(text: &[u8], at: usize) -> Line
     ensures { result ≡ answer at (lines (drop at text.now)) }
@@ -53,17 +78,8 @@ pub fn find_line(text: &[u8], at: usize) -> Line
         return Line::End;
     }
     let end = digits_end(text, at);
-    if text.len() <= end {
-        return Line::NoLine;
-    }
-    if text[end] != LF {
-        return Line::NoLine;
-    }
     let count = end - at;
-    if count == 0 {
-        return Line::NoLine;
-    }
-    if count % 2 != 0 {
+    if text.get(end) != Some(&LF) || count == 0 || count % 2 != 0 {
         return Line::NoLine;
     }
     Line::Found { end, next: end + 1 }
@@ -83,14 +99,14 @@ pub fn part_of(text: &[u8], at: usize, end: usize) -> &[u8]
     &text[at..end]
 }
 
-// The number of the refusal where a line is wanted and there is none.
-pub fn refusal_of(line: Line) -> u8
-    ensures { result ≡ refusal line }
+// Where a line is wanted: its end and the next line's beginning, or the refusal where there is none.
+pub fn wanted(line: Line) -> Result<Span, Refusal>
+    ensures { result ≡ wanted line }
 {
     match line {
-        Line::Found { end: _, next: _ } => 0,
-        Line::NoLine => NO_LINE,
-        Line::End => WRONG_FRAME,
+        Line::Found { end, next } => Ok(Span { end, next }),
+        Line::NoLine => Err(Refusal::NotALine),
+        Line::End => Err(Refusal::WrongFrame),
     }
 }
 
@@ -99,32 +115,20 @@ fn digits_end(text: &[u8], from: usize) -> usize
     requires { from ≤ length text.now }
     ensures { (result ≡ from + run (drop from text.now)) × (result ≤ length text.now) }
 {
-    let mut i = from;
-    while i < text.len() {
-        let value = digit_value(text[i]);
-        if 16 <= value {
-            return i;
-        }
-        i += 1;
-    }
-    i
+    let rest = &text[from..];
+    from + rest
+        .iter()
+        .position(|c| 16 <= digit_value(*c))
+        .unwrap_or(rest.len())
 }
 
 // What a character counts as a digit, 16 where it is none.
 fn digit_value(c: u8) -> u8
     ensures { result ≡ digit c }
 {
-    if c < 48 {
-        return 16;
+    match c {
+        b'0'..=b'9' => c - b'0',
+        b'a'..=b'f' => c - b'a' + 10,
+        _ => 16,
     }
-    if c <= 57 {
-        return c - 48;
-    }
-    if c < 97 {
-        return 16;
-    }
-    if c <= 102 {
-        return c - 87;
-    }
-    16
 }

@@ -1,38 +1,23 @@
 -- Where an arc leads, one law for each way that the code tells it, and the linking of the arcs from some number
 -- on: a turn links one of them, and what is done, with the rest of the arcs, is the whole answer. Assumes
 -- nothing.
-use Prim.Native.Nat.{ℕ, suc, ◌+◌, ◌*◌, ◌-◌, ◌≤◌, ◌<◌}
-use mathlib.Core.Path.{◌≡◌, refl, sym, ◌∙◌}
-use mathlib.Core.Bool.{Bool, true, false, ◌&&◌, ◌||◌, and-true, and-false, or-true}
-use mathlib.Core.List.{List, ◌∷◌}
-use native.Mathlib.Omega.{arith}
-use native.Mathlib.Nat.{zero-add, sub-zero}
-use native.Mathlib.Numerals.{add-one}
-use lib.Dec.{leb, ltb, eqb}
-use borrow.Author.Tests.{eq-eqb, ne_eqb, lt-ltb, le-ltb, le-leb, lt-leb}
+use Rattle.std.proofs.Common.{ℕ, zero, suc, ◌+◌, ◌*◌, ◌-◌, ◌≤◌, ◌<◌, ◌≡◌, refl, sym, ◌∙◌, Bool, true, false, ◌&&◌, ◌||◌}
+use Rattle.std.proofs.Common.{List, ◌∷◌, Some, None, leb, ltb, eqb, arith, zero-add, add-one, eq-eqb, ne_eqb, lt-ltb, le-ltb}
+use Rattle.std.proofs.Common.{le-leb}
+use mathlib.Core.Bool.{and-true, or-true, and_assoc}
+use native.Mathlib.Nat.{sub-zero}
+use borrow.Author.Tests.{lt-leb}
 use Rattle.lines.specs.Line.{choose}
 use Rattle.lines.proofs.Choosing.{choose_most}
-use Rattle.kinds.specs.Kind.{external, parallel}
 use Rattle.frames.specs.TableFrame.{term_room}
 use Rattle.columns.specs.words.Columns.{look}
-use Rattle.marks.specs.words.Mark.{term_of, is_own}
+use Rattle.marks.specs.words.Mark.{term_of}
 use Rattle.control.specs.words.Words.{track_word}
 use Rattle.rules.specs.Track.{Pair, pair}
 use Rattle.control.specs.words.Views.{pairs}
 use Rattle.links.specs.words.Columns.{put, at}
-use Rattle.links.specs.code.Linked.{side_words, splits, side_of, slot, bare, free, with_arc}
+use Rattle.links.specs.code.Linked.{side_words, splits, side_of, slot, told, bare, free, with_arc}
 use Rattle.links.specs.code.Linked.{linked, all_fit}
-
--- whether a mark has sides
-module _ (ks : List ℕ) (m : ℕ) where
-  pub splits_none : (b : Bool) → b ≡ is_own m → b ≡ false → false ≡ splits ks m
-  unfolding splits
-  splits_none b e h = rw (← e, h)
-
-  pub splits_kind : (b : Bool) → b ≡ is_own m → b ≡ true → (t k : ℕ) → t ≡ term_of m → k ≡ look term_room ks t
-      → (eqb k external || eqb k parallel) ≡ splits ks m
-  unfolding splits
-  splits_kind b e h t k f g = rw (← e, h, g, f)
 
 -- the side that a term stands in
 module _ (xs : List ℕ) (t u : ℕ) where
@@ -50,19 +35,27 @@ module _ (xs : List ℕ) (t u : ℕ) where
   side_behind h a b e l f = rw (← e, ← f) (simp (lt-leb u t h, le-ltb u a l))
 
 -- the side that an arc leads to
-module _ (ks xs : List ℕ) (m n : ℕ) (b : Bool) (told : b ≡ splits ks m) where
+module _ (ks xs : List ℕ) (m n : ℕ) (b : Bool) (told_is : b ≡ splits ks m) where
   pub slot_whole : b ≡ false → 2 ≡ slot ks xs m n
   unfolding slot
-  slot_whole h = rw (← told) (simp h)
+  slot_whole h = rw (← told_is) (simp h)
 
   pub slot_low : b ≡ true → n < 2 → 0 ≡ slot ks xs m n
   unfolding slot
-  slot_low h l = rw (← told) (simp (h, lt-ltb n 2 l))
+  slot_low h l = rw (← told_is) (simp (h, lt-ltb n 2 l))
 
-  pub slot_side : b ≡ true → 2 ≤ n → (t u s : ℕ) → t ≡ term_of m → u ≡ term_of n → s ≡ side_of xs t u
-      → s ≡ slot ks xs m n
+  pub slot_side : b ≡ true → 2 ≤ n → (t u : ℕ) → t ≡ term_of m → u ≡ term_of n → side_of xs t u ≡ slot ks xs m n
   unfolding slot
-  slot_side h l t u s e f k = k ∙ rw (← told, e, f) (simp (h, le-ltb n 2 l))
+  slot_side h l t u e f = rw (← told_is, e, f) (simp (h, le-ltb n 2 l))
+
+-- a side that is told, or is not
+pub side_told : (s x : ℕ) → told s ≡ Some x → (s ≡ x) × (s ≡ 0 → ⊥)
+side_told zero x e = absurd (cc)
+side_told (suc s) x e = (cc, λ z. cc)
+
+pub none_told : (s : ℕ) → told s ≡ None → s ≡ 0
+none_told zero e = refl
+none_told (suc s) e = absurd (cc)
 
 -- there are two sides
 pub slot_most : (ks xs : List ℕ) (m n s : ℕ) → s ≡ slot ks xs m n → s ≤ 2
@@ -143,9 +136,10 @@ module _ (ms ks xs g : List ℕ) (c : ℕ) where
     unfolding linked
     linked_turn = rw (one.1, f_is, t_is, add-one i, arcs_next g i c h)
 
-    pub fit_turn : fit_from w i ≡ (r && fit_from w' (i + 1))
+    pub fit_turn : (fits : Bool) → (fits && fit_from w i) ≡ ((fits && r) && fit_from w' (i + 1))
     unfolding all_fit
-    fit_turn = rw (arcs_next g i c h, ← f_is, ← t_is, ← one.0, ← one.1, add-one)
+    fit_turn fits =
+        rw (and_assoc fits r, arcs_next g i c h, ← f_is, ← t_is, ← one.0, ← one.1, add-one)
 
   -- with none left, what is linked is the whole answer
   pub linking_over : (k : ℕ) → c ≡ k → (w₀ w : List ℕ) (i : ℕ) (fits : Bool) → c ≤ i
@@ -157,11 +151,3 @@ module _ (ms ks xs g : List ℕ) (c : ℕ) where
         rw (← e) (sym (and-true fits) ∙ sym (rw (none_left, sub-zero c) at all_fit_is)),
         rw (← e) (sym (rw (none_left, sub-zero c) at linked_is)),
       )
-
--- whether all arcs fit, one more being linked
-module _ (fits fits' r whole rest : Bool) (one_more : whole ≡ (r && rest)) where
-  pub fits_lost : r ≡ false → fits' ≡ false → (fits && whole) ≡ (fits' && rest)
-  fits_lost h e = rw (one_more, h, e) (and-false fits)
-
-  pub fits_kept : r ≡ true → fits' ≡ fits → (fits && whole) ≡ (fits' && rest)
-  fits_kept h e = rw (one_more, h, e)

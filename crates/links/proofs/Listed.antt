@@ -1,13 +1,11 @@
 -- Pairs as a track's words list them. A list of pairs is cut where its numbers are, and the words of pairs
 -- that are put are read back. Assumes nothing.
-use Prim.Native.Nat.{ℕ, zero, suc, ◌+◌, ◌*◌, ◌-◌, ◌≤◌, ◌<◌}
-use mathlib.Core.Path.{◌≡◌, refl, ap, ◌∙◌}
-use mathlib.Core.List.{List, [], ◌∷◌, ◌++◌, append_assoc}
-use native.Mathlib.Omega.{arith}
-use native.Mathlib.Nat.{add-zero, zero-add}
-use lib.ListN.{length, get_or, set, take, drop, get_or-append}
-use lib.Seq.{sets, sets-eq, length-sets, length-take-le, get_or-append-add, get_or-set_other}
-use borrow.Author.Tests.{lt-ltb}
+use Rattle.std.proofs.Common.{ℕ, zero, suc, ◌+◌, ◌*◌, ◌-◌, ◌≤◌, ◌<◌, ◌≡◌, refl, ap, ◌∙◌, List, [], ◌∷◌, ◌++◌, append_assoc}
+use Rattle.std.proofs.Common.{arith, add-zero, zero-add, length, get_or, set, take, drop, length-take-le, get_or-append-add}
+use Rattle.std.proofs.Common.{get_or-set_other, lt-ltb}
+use Rattle.std.proofs.lemmas.List.Edits.{sets, sets-eq}
+use lib.ListN.{get_or-append}
+use lib.Seq.{length-sets}
 use Rattle.rules.specs.Track.{Pair, pair}
 use Rattle.rules.specs.Run.{arc_room, meeting_room}
 use Rattle.control.specs.words.Words.{track_words, track_word, meetings_from}

@@ -1,24 +1,13 @@
--- What is put where a word is in range and where it is not, and what a word tells of its place: one that is not 0
--- is in range. Assumes nothing.
-use Prim.Native.Nat.{ℕ, ◌%◌, ◌≤◌, ◌<◌}
-use mathlib.Core.Path.{◌≡◌, refl, sym, ◌∙◌}
-use mathlib.Core.Bool.{Bool, true, false}
-use mathlib.Core.List.{List}
-use lib.ListN.{set}
-use lib.Dec.{ltb}
-use borrow.Author.Tests.{ltb-true, ltb-false, lt-ltb, le-ltb}
+-- What is put where a word is in range, and what a word tells of its place: one that is not 0 is in range. Assumes nothing.
+use Rattle.std.proofs.Common.{ℕ, ◌%◌, ◌<◌, ◌≡◌, refl, sym, ◌∙◌, Bool, true, false, List, set, ltb, ltb-true, ltb-false}
+use Rattle.std.proofs.Common.{lt-ltb}
 use Rattle.columns.specs.words.Columns.{look}
 use Rattle.columns.proofs.Laws.{look_out}
 use Rattle.links.specs.words.Columns.{put}
 
-module _ (n : ℕ) (w : List ℕ) (i v : ℕ) where
-  pub put_in : i < n → set w i (v % 65536) ≡ put n w i v
-  unfolding put
-  put_in h = simp (lt-ltb i n h)
-
-  pub put_out : n ≤ i → w ≡ put n w i v
-  unfolding put
-  put_out h = simp (le-ltb i n h)
+pub put_in : (n : ℕ) (w : List ℕ) (i v : ℕ) → i < n → set w i (v % 65536) ≡ put n w i v
+unfolding put
+put_in n w i v h = simp (lt-ltb i n h)
 
 -- a word that is not 0 is in range
 pub look_inside : (n : ℕ) (xs : List ℕ) (i v : ℕ) → v ≡ look n xs i → (v ≡ 0 → ⊥) → i < n

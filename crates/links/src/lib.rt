@@ -11,13 +11,14 @@ ghost use Rattle.links.specs.code.Linked as of;
 ghost use Rattle.rules.specs.Run.{arc_room};
 ghost use Rattle.links.specs.code.Linked.{side_words};
 
-use columns::{After, Kinds, after_of, kind_of, wide};
+use columns::{After, Kinds, after_of, kind_of};
 use control::{REFERENCES, Track, track_word};
 use kinds::{EXTERNAL, PARALLEL};
 use marks::{is_own, term_of};
 use rules::ARC_ROOM;
 
 // A column of references: marks, labels or numbers; and two words for each reference, and two more.
+// Arrays of a run's room, with no heap.
 pub type Column = [u16; REFERENCES];
 
 pub const SIDE_WORDS: usize = 16388;
@@ -36,30 +37,24 @@ pub struct GraphCounts {
 pub fn reference_word(n: usize, column: &Column) -> usize
     ensures { result ≡ words.at column.now n }
 {
-    if n < REFERENCES { wide(column[n]) } else { 0 }
+    usize::from(column.get(n).copied().unwrap_or(0))
 }
 
 // Word i of the sides.
 pub fn side_word(i: usize, sides: &SideWords) -> usize
     ensures { result ≡ look side_words sides.now i }
 {
-    if i < SIDE_WORDS { wide(sides[i]) } else { 0 }
+    usize::from(sides.get(i).copied().unwrap_or(0))
 }
 
 // Puts word i of the sides.
 fn put_side_word(i: usize, value: usize, sides: &mut SideWords)
     ensures { sides.new ≡ words.put side_words sides.old i value }
 {
+    // No `get_mut`: once its borrow is over, a proof knows no word of an array.
     if i < SIDE_WORDS {
         sides[i] = (value % 65536) as u16;
     }
-}
-
-// A count, or the room where it passes that.
-pub fn at_most(count: usize, room: usize) -> usize
-    ensures { result ≡ min count room }
-{
-    if count < room { count } else { room }
 }
 
 // Links the first so many arcs of a track; tells whether each one between marked references found its side free.
@@ -77,17 +72,11 @@ pub fn link(
         (replicate side_words 0) (pairs 0 track.now 0 (min arcs arc_room)) }
 {
     *sides = [0u16; SIDE_WORDS];
-    let count = at_most(arcs, ARC_ROOM);
     let mut fits = true;
-    let mut i: usize = 0;
-    while i < count {
+    for i in 0..arcs.min(ARC_ROOM) {
         let from = track_word(2 * i, track);
         let to = track_word(2 * i + 1, track);
-        let fit = link_arc(from, to, marks, kinds, after, sides);
-        if !fit {
-            fits = false;
-        }
-        i += 1;
+        fits &= link_arc(from, to, marks, kinds, after, sides);
     }
     fits
 }
@@ -110,16 +99,12 @@ fn link_arc(
 {
     let mark = reference_word(from, marks);
     let other = reference_word(to, marks);
-    if mark == 0 {
+    if mark == 0 || other == 0 {
         return true;
     }
-    if other == 0 {
-        return true;
-    }
-    let slot = slot_of(mark, other, kinds, after);
-    if slot == 0 {
+    let Some(slot) = slot_of(mark, other, kinds, after) else {
         return false;
-    }
+    };
     let word = 2 * from + slot;
     if side_word(word, sides) != 0 {
         return false;
@@ -128,15 +113,15 @@ fn link_arc(
     true
 }
 
-// The side that an arc leads to, by the marks of its ends; all arcs of a node with no sides lead to its second.
-fn slot_of(mark: usize, other: usize, kinds: &Kinds, after: &After) -> usize
-    ensures { result ≡ of.slot kinds.now after.now mark other }
+// The side that an arc leads to, if any, by the marks of its ends; all arcs of a node with no sides lead to its second.
+fn slot_of(mark: usize, other: usize, kinds: &Kinds, after: &After) -> Option<usize>
+    ensures { result ≡ of.told (of.slot kinds.now after.now mark other) }
 {
     if !splits(mark, kinds) {
-        return 2;
+        return Some(2);
     }
     if other < 2 {
-        return 0;
+        return None;
     }
     side_of(term_of(mark), term_of(other), after)
 }
@@ -145,28 +130,20 @@ fn slot_of(mark: usize, other: usize, kinds: &Kinds, after: &After) -> usize
 fn splits(mark: usize, kinds: &Kinds) -> bool
     ensures { result ≡ of.splits kinds.now mark }
 {
-    if !is_own(mark) {
-        return false;
-    }
-    let kind = kind_of(term_of(mark), kinds);
-    if kind == EXTERNAL {
-        return true;
-    }
-    kind == PARALLEL
+    is_own(mark) && matches!(kind_of(term_of(mark), kinds), EXTERNAL | PARALLEL)
 }
 
-// The side of a term that another one stands in; 0 where it stands in neither.
-fn side_of(term: usize, other: usize, after: &After) -> usize
-    ensures { result ≡ of.side_of after.now term other }
+// The side of a term that another one stands in, if it stands in one.
+fn side_of(term: usize, other: usize, after: &After) -> Option<usize>
+    ensures { result ≡ of.told (of.side_of after.now term other) }
 {
     if other <= term {
-        return 0;
+        None
+    } else if other < after_of(term + 1, after) {
+        Some(1)
+    } else if other < after_of(term, after) {
+        Some(2)
+    } else {
+        None
     }
-    if other < after_of(term + 1, after) {
-        return 1;
-    }
-    if other < after_of(term, after) {
-        return 2;
-    }
-    0
 }

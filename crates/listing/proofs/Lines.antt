@@ -14,8 +14,7 @@ use borrow.Author.Tests.{leb-true, leb-false, le-leb, lt-leb}
 use Rattle.lines.specs.Line.{choose}
 use Rattle.spelling.specs.words.Puts.{Puts}
 use Rattle.writing.specs.words.Slice.{Put, with_slice, written}
-use Rattle.writing.specs.declared.Saved.{Saved}
-use Rattle.writing.specs.declared.Saved.TheVariants.{Written, Short}
+use Rattle.writing.specs.Answers.{Saved, Written, Short}
 use Rattle.writing.proofs.Whole.{written_whole}
 use Rattle.telling.specs.ListingFrame.{alone}
 use Rattle.listing.specs.Listing.{save_room, within_room}

@@ -17,11 +17,9 @@ use Rattle.rules.specs.declared.Event.{Event}
 use Rattle.rules.specs.declared.Event.TheVariants.{Tau, Tick, Visible}
 use Rattle.runs.specs.code.Doors as run
 use Rattle.playing.specs.code.Playing as plays
-use Rattle.runs.specs.declared.Answer.{Answer}
-use Rattle.runs.specs.declared.Answer.TheVariants.{Accepted}
-use Rattle.runs.specs.declared.Answer.TheVariants as Answers
-use Rattle.playing.specs.declared.Played.{Played}
-use Rattle.playing.specs.declared.Played.TheVariants.{Stepped, Refused, End}
+use Rattle.runs.specs.Answer.{Answer, Accepted}
+use Rattle.runs.specs.Answer as Answers
+use Rattle.playing.specs.Played.{Played, Stepped, Refused, End}
 use Rattle.spelling.specs.words.Puts.{Puts}
 use Rattle.spelling.proofs.Putting.{puts_then}
 use Rattle.spelling.proofs.Spelt.{text_append}
@@ -40,6 +38,12 @@ record Alike (y z : plays.LinePlayed) : Type 0 where
 -- what a line that is no step was
 abbrev pub Other : Played → Type 0
 Other r = (e : Event) (next : ℕ) → r ≡ Stepped e next → ⊥
+
+pub other_end : {r : Played} → r ≡ End → Other r
+other_end is e next same = let z : ◌≡◌ {A = ℕ} 0 1 = cc in absurd (omega arith)
+
+pub other_refused : {r : Played} {n : ℕ} → r ≡ Refused n → Other r
+other_refused is e next same = let z : ◌≡◌ {A = ℕ} 0 1 = cc in absurd (omega arith)
 
 -- such a line stops
 by_other : (n : ℕ) (z : plays.LinePlayed) (rest : Stopped) (r : Played) → Other r

@@ -13,8 +13,7 @@ use Rattle.tables.specs.Table.{Sofar, judged}
 use Rattle.columns.specs.words.Columns.{Columns, all_columns}
 use Rattle.tables.specs.words.Columns.{columns_of, table_counts, Outcome, with_columns, outcome}
 use Rattle.tables.specs.declared.TableCounts.{TableCounts}
-use Rattle.tables.specs.declared.Checked.{Checked}
-use Rattle.tables.specs.declared.Checked.TheVariants.{Accepted, Refused}
+use Rattle.tables.specs.Checked.{Checked, Accepted, Refused}
 use Rattle.tables.proofs.Whole.{outcome_refuses, outcome_accepts}
 use Rattle.plans.specs.code.Laid.{laid_out}
 use Rattle.status.specs.code.Status.{status}

@@ -5,27 +5,27 @@
 
 ghost use Rattle.std.specs.Prelude.{◌≡◌, ◌≤◌, length};
 ghost use Rattle.std.proofs.lemmas.List.Edits.{sets as put};
+ghost use Rattle.lines.specs.Refusal.{met};
 ghost use Rattle.spelling.specs.words.Puts.{Puts, line_cursor};
 ghost use Rattle.saving.specs.code.Saving.{text_of};
 ghost use Rattle.listing.specs.Listing.{listing, within_room, script_room};
 ghost use Rattle.listing.specs.code.Told as of;
 
-use columns::{After, Kinds, Owners, Payloads, Roots, wide};
+use columns::{After, Kinds, Owners, Payloads, Roots};
 use control::{Counters, NODE_WORDS, Nodes, REFERENCES, TRACK_WORDS, Track};
 use counting::REFERENCE;
 use frames::{DEFINITION_ROOM, TERM_ROOM};
 use inputs::table_end;
-use lines::{SLICE_TOO_SHORT, TEXT_OVER_ROOM};
+use lines::Refusal;
 use links::SIDE_WORDS;
 use plans::{PLAN_WORDS, Plan, lay_out};
-use playing::{Played, play};
+use playing::play;
 use runs::start;
 use saving::save;
 use scripts::{DIGIT_ROOM, SCRIPT_TEXT_ROOM};
 use status::status_at;
-use tables::{Checked, check};
+use tables::check;
 use telling::{put_copy, put_event, put_refusal, put_status};
-use writing::Saved;
 
 const SAVE_ROOM: usize = 65536;
 
@@ -50,20 +50,17 @@ pub fn list(input: &[u8], out: &mut [u8]) -> usize
         &mut roots,
     );
     match checked {
-        Checked::Refused { number, line } => put_refusal(number, line, 0, out),
-        Checked::Accepted(counts) => {
-            let terms = counts.terms;
-            list_script(
-                &input[end..],
-                terms,
-                &kinds,
-                &payloads,
-                &owners,
-                &after,
-                &roots,
-                out,
-            )
-        }
+        Err(refused) => put_refusal(refused.refusal.number(), refused.line, 0, out),
+        Ok(counts) => list_script(
+            &input[end..],
+            counts.terms,
+            &kinds,
+            &payloads,
+            &owners,
+            &after,
+            &roots,
+            out,
+        ),
     }
 }
 
@@ -82,7 +79,7 @@ fn list_script(
         after.now roots.now script.now) out.old out.new result }
 {
     if SCRIPT_TEXT_ROOM < script.len() {
-        return put_refusal(TEXT_OVER_ROOM, 0, 0, out);
+        return put_refusal(Refusal::TextOverRoom.number(), 0, 0, out);
     }
     let mut plan = [0u16; PLAN_WORDS];
     lay_out(terms, kinds, payloads, after, roots, &mut plan);
@@ -118,9 +115,9 @@ fn list_run(
         &mut counters,
         out,
     );
-    let status = status_at(wide(counters[REFERENCE]), plan, payloads, &nodes);
+    let status = status_at(usize::from(counters[REFERENCE]), plan, payloads, &nodes);
     let behind_status = put_status(status, stop.end, out);
-    let behind_stop = put_stop(stop.number, stop.line, behind_status, out);
+    let behind_stop = put_stop(stop.refusal, stop.line, behind_status, out);
     put_track(
         kinds,
         owners,
@@ -134,11 +131,11 @@ fn list_run(
     )
 }
 
-// Where a script's steps have stopped: the number of the refusal that ended them, 0 where there was none, its line, and
-// where their lines end in the listing.
+// Where a script's steps have stopped: at the refusal of a line or at the end, at which line, and where their lines end in the
+// listing.
 #[derive(Clone, Copy)]
 struct Stop {
-    number: u8,
+    refusal: Option<Refusal>,
     line: usize,
     end: usize,
 }
@@ -157,51 +154,47 @@ fn put_steps(
     ensures { of.StepsPut (of.from_words plan.now sets.now script.now
         nodes.old track.old counters.old)
         nodes.new track.new counters.new out.old out.new
-        result.number result.line result.end }
+        (met result.refusal) result.line result.end }
 {
     let mut digits = [0u8; DIGIT_ROOM];
     let mut at = 0;
     let mut line: usize = 1;
     let mut end = 0;
+    // Lines go by a cursor, up to the first that is no step: no range has their number.
     loop {
-        let played = play(script, at, &mut digits, plan, sets, nodes, track, counters);
-        let Played::Stepped { event, next } = played else {
-            return stopped(played, line, end);
-        };
-        end = put_event(event, end, out);
-        at = next;
-        line += 1;
-    }
-}
-
-// Where a script has stopped at a line that is no step.
-fn stopped(played: Played, line: usize, end: usize) -> Stop
-    ensures { (result.number ≡ of.number_of played) × (result.line ≡ line) × (result.end ≡ end) }
-{
-    match played {
-        Played::Stepped { event: _, next: _ } => Stop {
-            number: 0,
-            line,
-            end,
-        },
-        Played::Refused(number) => Stop { number, line, end },
-        Played::End => Stop {
-            number: 0,
-            line,
-            end,
-        },
+        match play(script, at, &mut digits, plan, sets, nodes, track, counters) {
+            Ok(Some(step)) => {
+                end = put_event(step.event, end, out);
+                at = step.next;
+                line += 1;
+            }
+            Ok(None) => {
+                return Stop {
+                    refusal: None,
+                    line,
+                    end,
+                };
+            }
+            Err(refusal) => {
+                return Stop {
+                    refusal: Some(refusal),
+                    line,
+                    end,
+                };
+            }
+        }
     }
 }
 
 // Puts the refusal that ended a script, where there was one.
-fn put_stop(number: u8, line: usize, at: usize, out: &mut [u8]) -> usize
+fn put_stop(refusal: Option<Refusal>, line: usize, at: usize, out: &mut [u8]) -> usize
     requires { at ≤ line_cursor }
-    ensures { Puts at (of.stop_text number line) out.old out.new result }
+    ensures { Puts at (of.stop_text (met refusal) line) out.old out.new result }
 {
-    if number == 0 {
-        return at;
+    match refusal {
+        None => at,
+        Some(met) => put_refusal(met.number(), line, at, out),
     }
-    put_refusal(number, line, at, out)
 }
 
 // Puts a run's saved track, or the refusal 12 where it passes its room.
@@ -247,8 +240,8 @@ fn put_track(
         &mut saved_text,
     );
     match saved {
-        Saved::Short(_) => put_refusal(SLICE_TOO_SHORT, 0, at, out),
-        Saved::Written(length) => put_copy(&saved_text, length, at, out),
+        Err(_) => put_refusal(Refusal::SliceTooShort.number(), 0, at, out),
+        Ok(length) => put_copy(&saved_text, length, at, out),
     }
 }
 

@@ -6,39 +6,33 @@ ghost use Rattle.std.specs.Prelude.{◌≡◌};
 ghost use Rattle.looking.specs.code.Looking as spec;
 
 use control::{Track, track_word};
-use numbers::wide;
 use plans::{EXTERNAL_WORD, PARALLEL_WORD, Plan, around_of};
 use rules::ARC_ROOM;
-use scripts::{DIGIT_ROOM, Digits};
+use scripts::Digits;
 
 // The digit at a place of an address, 0 behind its last.
 pub fn digit_at(at: usize, count: usize, digits: &Digits) -> usize
     ensures { result ≡ spec.digit_at digits.now count at }
 {
-    if count <= at {
-        return 0;
+    if at < count {
+        usize::from(digits.get(at).copied().unwrap_or(0))
+    } else {
+        0
     }
-    if at < DIGIT_ROOM { wide(digits[at]) } else { 0 }
 }
 
 // An external choice or a parallel.
 pub fn is_split(kind: usize) -> bool
     ensures { result ≡ spec.is_split kind }
 {
-    if kind == EXTERNAL_WORD {
-        return true;
-    }
-    kind == PARALLEL_WORD
+    kind == EXTERNAL_WORD || kind == PARALLEL_WORD
 }
 
 // A digit that names a side, or both.
 pub fn is_side(digit: usize) -> bool
     ensures { result ≡ spec.is_side digit }
 {
-    if digit == 0 {
-        return false;
-    }
-    digit <= 3
+    1 <= digit && digit <= 3
 }
 
 // Of two sides, the one that a digit goes to first.
@@ -52,18 +46,14 @@ pub fn taken(digit: usize, first: usize, second: usize) -> usize
 pub fn is_within(nested: bool, around: usize) -> bool
     ensures { result ≡ spec.is_within nested around }
 {
-    if nested {
-        return true;
-    }
-    around != 0
+    nested || around != 0
 }
 
 // The frame of what is called or chosen inside a term: its reference where a sequence is around the term.
 pub fn beyond(t: usize, n: usize, frame: usize, plan: &Plan) -> usize
     ensures { result ≡ spec.beyond plan.now t n frame }
 {
-    let around = around_of(t, plan);
-    if around == 0 { frame } else { n }
+    if around_of(t, plan) == 0 { frame } else { n }
 }
 
 // The frame that ends the sequences of a split's sides.
@@ -71,9 +61,10 @@ pub fn inside_of(kind: usize, t: usize, n: usize, frame: usize, plan: &Plan) -> 
     ensures { result ≡ spec.inside plan.now kind t n frame }
 {
     if kind == PARALLEL_WORD {
-        return n;
+        n
+    } else {
+        beyond(t, n, frame, plan)
     }
-    beyond(t, n, frame, plan)
 }
 
 // How many of the first arcs lead to one of two references.
@@ -81,16 +72,11 @@ pub fn parents(first: usize, second: usize, arcs: usize, track: &Track) -> usize
     ensures { result ≡ spec.parents track.now first second 0 arcs }
 {
     let mut found: usize = 0;
-    let mut i: usize = 0;
-    while i < arcs {
-        if ARC_ROOM <= i {
-            return found;
-        }
+    for i in 0..arcs.min(ARC_ROOM) {
         let to = track_word(2 * i + 1, track);
         if leads(to, first, second) {
             found += 1;
         }
-        i += 1;
     }
     found
 }
@@ -98,8 +84,5 @@ pub fn parents(first: usize, second: usize, arcs: usize, track: &Track) -> usize
 pub fn leads(to: usize, first: usize, second: usize) -> bool
     ensures { result ≡ spec.leads to first second }
 {
-    if to == first {
-        return true;
-    }
-    to == second
+    to == first || to == second
 }

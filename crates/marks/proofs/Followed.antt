@@ -1,30 +1,15 @@
 -- The mark at a path, a digit at a time: what is found from a term on by the digits from byte i on is what is found from the next
 -- term on by those behind it. Assumes nothing.
-use Prim.Native.Nat.{ℕ, suc, ◌+◌, ◌/◌, ◌%◌, ◌≤◌, ◌<◌}
-use mathlib.Core.Path.{◌≡◌, sym}
-use mathlib.Core.Bool.{Bool, true, false}
-use mathlib.Core.List.{List}
-use native.Mathlib.Omega.{arith}
-use lib.ListN.{length, drop, drop_of_length-le}
-use lib.Dec.{eqb}
-use lib.Seq.{drop-cons}
-use borrow.Author.Tests.{eqb-true, eqb-false, eq-eqb, ne_eqb, lt-ltb, le-ltb}
+use Rattle.std.proofs.Common.{◌≡◌, ℕ, suc, ◌+◌, ◌/◌, ◌<◌, ◌≤◌, Bool, true, false, eqb, List, length}
+use Rattle.std.proofs.Common.{drop, sym, arith, drop_of_length-le, drop-cons, eq-eqb, ne_eqb, eqb-true}
+use Rattle.std.proofs.lemmas.Bool.{eqb-false}
 use Rattle.lines.specs.Line.{choose}
 use Rattle.numbers.specs.code.Numbers.{read_bytes, byte_at}
 use Rattle.numbers.proofs.Laws.{read_length}
 use Rattle.kinds.specs.Kind.{subterms}
 use Rattle.columns.specs.words.Columns.{look}
-use Rattle.marks.specs.words.Mark.{own_mark, event_mark}
+use Rattle.marks.specs.words.Mark.{event_mark}
 use Rattle.marks.specs.code.Followed.{own_here, event_end, find}
-use Rattle.marks.proofs.Laws.{own_small}
-
--- a term's own literal, by whether there is such a term
-module _ (t : ℕ) where
-  pub own_none : 1024 ≤ t → 0 ≡ own_here t
-  own_none h = simp (le-ltb t 1024 h)
-
-  pub own_found : t < 1024 → {m : ℕ} → m ≡ own_mark t → m % 65536 ≡ own_here t
-  own_found h {m} e = simp (lt-ltb t 1024 h) (omega (arith, own_small t))
 
 -- the bytes of characters, and columns of a table
 module _ (cs ks xs : List ℕ) where

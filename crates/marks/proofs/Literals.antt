@@ -1,16 +1,9 @@
 -- The mark found at a path is that of the literal that has that path: where the columns hold a term, following a path by the
 -- columns and following it by the term lead to one number, by induction over the term; and the literals of a term have one path
 -- each. Assumes nothing.
-use Prim.Native.Nat.{ℕ, suc, ◌+◌, ◌*◌, ◌≤◌, ◌<◌}
-use mathlib.Core.Path.{◌≡◌, refl, sym, ap, ◌∙◌}
-use mathlib.Core.Bool.{Bool, true, false}
-use mathlib.Core.Logic.{◌⊎◌, inl, inr}
-use mathlib.Core.List.{List, [], ◌∷◌}
-use mathlib.Core.Option.{Option, none, some}
-use native.Mathlib.Omega.{arith}
-use native.Mathlib.Numerals.{add-one}
-use lib.Dec.{eqb}
-use borrow.Author.Tests.{lt-ltb}
+use Rattle.std.proofs.Common.{◌≡◌, ℕ, suc, ◌+◌, ◌*◌, ◌<◌, ◌≤◌, Bool, true, false, eqb, ◌⊎◌, List, [], ◌∷◌}
+use Rattle.std.proofs.Common.{sym, refl, ap, ◌∙◌, inl, inr, add-one, arith, lt-ltb}
+use Rattle.std.proofs.Math.Option.{Option, none, some}
 use Rattle.lines.specs.Line.{choose}
 use Rattle.kinds.specs.Kind.{subterms}
 use Rattle.frames.specs.TableFrame.{term_room}

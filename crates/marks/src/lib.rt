@@ -34,31 +34,31 @@ pub fn literal_of(mark: usize) -> Literal
     ensures { result ≡ of.literal mark }
 {
     if mark < 2 {
-        return Literal::Left(0);
+        Literal::Left(0)
+    } else if mark % 2 == 0 {
+        Literal::Own(term_of(mark))
+    } else {
+        Literal::Event(term_of(mark))
     }
-    if mark % 2 == 0 {
-        return Literal::Own(term_of(mark));
-    }
-    Literal::Event(term_of(mark))
 }
 
 // The number of the term that a mark is of.
 pub fn term_of(mark: usize) -> usize
     ensures { result ≡ of.term_of mark }
 {
-    if mark < 2 { 0 } else { (mark - 2) / 2 }
+    mark.saturating_sub(2) / 2
 }
 
 // Whether a mark is of a term's own literal.
 pub fn is_own(mark: usize) -> bool
     ensures { result ≡ of.is_own mark }
 {
-    (2 <= mark) & (mark % 2 == 0)
+    2 <= mark && mark % 2 == 0
 }
 
 // Whether a mark is of a prefix's event.
 pub fn is_event(mark: usize) -> bool
     ensures { result ≡ of.is_event mark }
 {
-    (2 <= mark) & (mark % 2 == 1)
+    2 <= mark && mark % 2 == 1
 }

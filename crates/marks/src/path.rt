@@ -14,44 +14,34 @@ use kinds::subterms;
 use numbers::byte;
 
 // The mark of the literal at the path that the bytes of the characters spell from byte `from` on, starting at term `root`; 0 where
-// there is none.
+// there is none, as a column of marks has it.
 pub fn find(root: usize, chars: &[u8], from: usize, kinds: &Kinds, after: &After) -> u16
     ensures { result ≡ of.find kinds.now after.now root
         (drop from (read_bytes chars.now)) }
 {
     let count = chars.len() / 2;
     let mut term = root;
-    let mut i = from;
-    while i < count {
+    for i in from..count {
         let digit = byte(chars, i);
         let below = subterms(kind_of(term, kinds));
         if below == 0 {
             return 0;
         }
-        if digit == 1 {
-            if below != 2 {
-                return event_end(term, i + 1 == count);
-            }
-            term += 1;
-        } else {
-            if digit != 2 {
-                return 0;
-            }
-            term = last_subterm(term, below, after);
-        }
-        i += 1;
+        term = match digit {
+            1 if below == 2 => term + 1,
+            1 => return event_end(term, i + 1 == count),
+            2 => last_subterm(term, below, after),
+            _ => return 0,
+        };
     }
     own_here(term)
 }
 
-// The mark of a prefix's event, where the path ends there.
+// The mark of a prefix's event, where the path ends there; else 0, as a column has it.
 fn event_end(term: usize, ends: bool) -> u16
     ensures { result ≡ choose ends (event_mark term) 0 }
 {
-    if !ends {
-        return 0;
-    }
-    (event_mark(term) % 65536) as u16
+    if ends { event_mark(term) as u16 } else { 0 }
 }
 
 // The last subterm of a term.
@@ -66,12 +56,13 @@ fn last_subterm(term: usize, below: u8, after: &After) -> usize
     }
 }
 
-// The mark of a term's own literal; 0 where there is no such term.
+// The mark of a term's own literal; 0 where there is no such term, as a column has it.
 fn own_here(term: usize) -> u16
     ensures { result ≡ of.own_here term }
 {
-    if TERM_ROOM <= term {
-        return 0;
+    if term < TERM_ROOM {
+        own_mark(term) as u16
+    } else {
+        0
     }
-    (own_mark(term) % 65536) as u16
 }

@@ -7,6 +7,8 @@ ghost use Rattle.std.proofs.lemmas.List.Edits.{sets};
 ghost use Rattle.numbers.specs.code.Numbers.{read_bytes};
 ghost use Rattle.graphs.specs.Parsed.{refusal, frame_of, a_node};
 ghost use Rattle.finding.specs.code.Found.{marks_of};
+ghost use Rattle.lines.specs.Refusal.{told};
+ghost use Rattle.opening.specs.Answers.{lines_told};
 ghost use Rattle.node_lines.specs.code.Nodes as of;
 ghost use Rattle.rules.specs.Run.{node_room};
 
@@ -15,10 +17,9 @@ use finding::mark_of;
 use frames::PATH_ROOM;
 use graphs::NODE_FRAME;
 use line_reader::{Spelling, characters, next_line};
-use lines::{Line, OUT_OF_RANGE, WRONG_FRAME, refusal_of};
+use lines::{Refusal, RefusedAt, Span, wanted};
 use links::Column;
 use numbers::{byte, byte_at};
-use opening::Lines;
 
 // How many bytes stand before a node's path.
 const NODE_HEAD: usize = 5;
@@ -37,53 +38,43 @@ pub fn read_nodes(
     after: &After,
     roots: &Roots,
     labels: &mut Column,
-) -> Lines
+) -> Result<usize, RefusedAt>
     requires { count ≤ node_room }
-    ensures value { result ≡ (of.nodes_read definitions count text.now from).answer }
+    ensures value { lines_told result ≡ (of.nodes_read definitions count text.now from).answer }
     ensures labels_after { labels.new ≡ sets labels.old 0
         (marks_of kinds.now after.now roots.now 0
         (of.nodes_read definitions count text.now from).said) }
 {
     let mut at = from;
-    let mut k: usize = 0;
-    while k < count {
+    for k in 0..count {
         let line = k + FIRST_NODE;
         let found = next_line(text, at, Spelling::Strict);
-        let Line::Found { end, next } = found else {
-            return Lines::Stops {
-                number: refusal_of(found),
-                line,
-            };
-        };
+        let Span { end, next } = wanted(found).map_err(|refusal| refusal.at(line))?;
         let chars = characters(text, at, end);
-        let number = node_refusal(chars, definitions);
-        if number != 0 {
-            return Lines::Stops { number, line };
-        }
+        node_refusal(chars, definitions).map_err(|refusal| refusal.at(line))?;
         labels[k] = mark_of(k, chars, kinds, after, roots);
         at = next;
-        k += 1;
     }
-    Lines::Goes(at)
+    Ok(at)
 }
 
-// The number that a line meets where a node is due, 0 where it meets none.
-fn node_refusal(chars: &[u8], definitions: usize) -> u8
-    ensures { (n : ℕ) → result ≡ refusal definitions n a_node (frame_of (read_bytes chars.now)) }
+// Judges a line where a node is due.
+fn node_refusal(chars: &[u8], definitions: usize) -> Result<(), Refusal>
+    ensures { (n : ℕ) → told result ≡ refusal definitions n a_node (frame_of (read_bytes chars.now)) }
 {
     let count = chars.len() / 2;
     if byte(chars, 0) != NODE_FRAME {
-        return WRONG_FRAME;
+        return Err(Refusal::WrongFrame);
     }
     let length = byte_at(chars, 4);
     if count != length + NODE_HEAD {
-        return WRONG_FRAME;
+        return Err(Refusal::WrongFrame);
     }
     if PATH_ROOM < length {
-        return OUT_OF_RANGE;
+        return Err(Refusal::OutOfRange);
     }
     if definitions <= byte_at(chars, 3) {
-        return OUT_OF_RANGE;
+        return Err(Refusal::OutOfRange);
     }
-    0
+    Ok(())
 }

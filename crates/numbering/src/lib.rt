@@ -14,7 +14,7 @@ ghost use Rattle.links.specs.code.Linked.{side_words};
 
 use columns::{After, Kinds};
 use control::{MEETINGS_FROM, REFERENCES, TRACK_WORDS, Track};
-use links::{Column, GraphCounts, SIDE_WORDS, SideWords, at_most, link};
+use links::{Column, GraphCounts, SIDE_WORDS, SideWords, link};
 use pairing::renumber;
 use rules::{ARC_ROOM, MEETING_ROOM};
 use sorting::sort;
@@ -48,10 +48,10 @@ pub fn number(
     let nodes = walk(marks, sides, numbers, labels, pending);
     *graph = [0u16; TRACK_WORDS];
     *spare = [0u16; TRACK_WORDS];
-    let arcs_out = number_pairs(
+    let arcs = number_pairs(
         nodes,
         0,
-        at_most(arcs, ARC_ROOM),
+        arcs.min(ARC_ROOM),
         false,
         track,
         numbers,
@@ -59,10 +59,10 @@ pub fn number(
         spare,
         pending,
     );
-    let meetings_out = number_pairs(
+    let meetings = number_pairs(
         nodes,
         MEETINGS_FROM,
-        at_most(meetings, MEETING_ROOM),
+        meetings.min(MEETING_ROOM),
         true,
         track,
         numbers,
@@ -75,8 +75,8 @@ pub fn number(
     *spare = [0u16; TRACK_WORDS];
     GraphCounts {
         nodes,
-        arcs: arcs_out,
-        meetings: meetings_out,
+        arcs,
+        meetings,
     }
 }
 

@@ -1,13 +1,9 @@
 -- What a caller may rely on: the bytes that characters stand for, two by two, are as many as there are pairs, each is the one
 -- that is read, and up to eight of them make the number that is read. Of a line's characters they are its bytes.
 -- Assumes nothing.
-use Prim.Native.Nat.{ℕ, suc, ◌+◌, ◌*◌, ◌/◌, ◌≤◌, ◌<◌, zero, ◌-◌, ◌%◌}
-use mathlib.Core.Path.{◌≡◌, refl, sym, ap, ◌∙◌}
-use mathlib.Core.List.{List, [], ◌∷◌, map}
-use mathlib.Core.Option.{some}
-use native.Mathlib.Omega.{arith}
-use lib.ListN.{length, take, drop, get_or, length-drop, get_or-eq_default}
-use lib.Seq.{drop-cons}
+use Rattle.std.proofs.Common.{ℕ, zero, suc, ◌+◌, ◌-◌, ◌*◌, ◌/◌, ◌%◌, ◌≤◌, ◌<◌, ◌≡◌, List, [], ◌∷◌, ◌++◌, map, length, take, drop, get_or, refl, sym, ap, ◌∙◌, arith}
+use Rattle.std.proofs.Math.ListN.{get_or-eq_default}
+use Rattle.std.proofs.Math.Option.{some}
 use Rattle.lines.specs.Line.{number, number_from, bytes, digit}
 use Rattle.lines.proofs.Digits.{pair_some}
 use Rattle.numbers.specs.code.Numbers.{read_bytes, byte_at, byte_of, number_of}
@@ -55,26 +51,21 @@ byte_some (a ∷ b ∷ cs) (suc k) h =
 pub byte_none : (cs : List ℕ) (k : ℕ) → length cs / 2 ≤ k → 0 ≡ byte_at cs k
 byte_none cs k h = sym (get_or-eq_default (read_bytes cs) 0 (omega (arith, read_length cs)))
 
--- the number of the characters from 2 k on takes in one byte more
-pub number_more : (cs : List ℕ) (k n : ℕ) → k < length cs / 2
-    → number_of n (drop (2 * k) cs)
-    ≡ number_of (n % 72057594037927936 * 256 + byte_of (get_or cs (2 * k) 0) (get_or cs (2 * k + 1) 0))
-    (drop (2 * (k + 1)) cs)
+-- the number of characters takes in their first two as one byte more
+pub number_more : (n : ℕ) (all pair rest : List ℕ) → all ≡ pair ++ rest → length pair ≡ 2
+    → number_of n all ≡ number_of (n % 72057594037927936 * 256 + byte_of (get_or pair 0 0) (get_or pair 1 0)) rest
 unfolding number_of
-number_more cs k n h =
-    let m : 2 * (k + 1) ≡ suc (suc (2 * k)) = omega arith in
-    let q : 2 * k + 1 ≡ suc (2 * k) = omega arith in
-    rw (m, q, drop-cons cs (2 * k) 0 (omega arith), drop-cons cs (suc (2 * k)) 0 (omega arith))
+number_more n all [] rest e h = absurd (omega arith)
+number_more n all (x ∷ []) rest e h = absurd (omega arith)
+number_more n all (x ∷ y ∷ []) rest e h = rw e
+number_more n all (x ∷ y ∷ z ∷ pair) rest e h = absurd (omega arith)
 
--- and ends where no two characters are left
-pub number_end : (cs : List ℕ) (k n : ℕ) → length cs / 2 ≤ k → number_of n (drop (2 * k) cs) ≡ n
+-- and ends where no two are left
+pub number_end : (n : ℕ) (cs : List ℕ) → length cs < 2 → number_of n cs ≡ n
 unfolding number_of
-number_end cs k n h = go (drop (2 * k) cs) (omega (arith, length-drop (2 * k) cs))
-  where
-    go : (l : List ℕ) → length l ≤ 1 → number_of n l ≡ n
-    go [] q = refl
-    go (x ∷ []) q = refl
-    go (x ∷ y ∷ l) q = absurd (omega arith)
+number_end n [] h = refl
+number_end n (x ∷ []) h = refl
+number_end n (x ∷ y ∷ cs) h = absurd (omega arith)
 
 -- the largest number that k more bytes can make of n
 most : ℕ → ℕ → ℕ

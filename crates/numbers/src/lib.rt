@@ -22,12 +22,9 @@ pub fn byte(chars: &[u8], k: usize) -> u8
 pub fn number(chars: &[u8]) -> u64
     ensures { result ≡ number_of 0 chars.now }
 {
-    let n = chars.len() / 2;
     let mut number: u64 = 0;
-    let mut k = 0;
-    while k < n {
-        number = number % LOW_56_BITS * 256 + byte_of(chars[2 * k], chars[2 * k + 1]) as u64;
-        k += 1;
+    for pair in chars.chunks_exact(2) {
+        number = number % LOW_56_BITS * 256 + u64::from(byte_of(pair[0], pair[1]));
     }
     number
 }
@@ -60,13 +57,5 @@ pub fn byte_at(chars: &[u8], k: usize) -> usize
     ensures value { result ≡ byte_at chars.now k }
     ensures upper_bound { result < 256 }
 {
-    wide(byte(chars, k))
-}
-
-// A byte as a number.
-pub fn wide(x: u8) -> usize
-    ensures value { result ≡ x }
-    ensures upper_bound { result < 256 }
-{
-    x as usize
+    usize::from(byte(chars, k))
 }

@@ -1,7 +1,5 @@
 -- What an answer says settles it: its parts are told, and a set by its members. Assumes nothing.
-use Prim.Native.Nat.{ℕ}
-use mathlib.Core.Path.{◌≡◌, ap}
-use mathlib.Core.Bool.{Bool}
+use Rattle.std.proofs.Common.{ℕ, ◌≡◌, ap, Bool}
 use Rattle.sets.proofs.Told.{same_members}
 use Rattle.offering.specs.declared.Offered.{Offered}
 use Rattle.offering.specs.code.Offering.{Offer, seen}

@@ -1,11 +1,8 @@
 -- What the definitions of the code are at each test: one law a return, over plain variables. An answer's
 -- events are told by their members, so two offers are equal where each event is in both or in neither.
 -- Assumes nothing.
-use Prim.Native.Nat.{ℕ, ◌%◌}
-use mathlib.Core.Path.{◌≡◌, ap, fun_ext}
-use mathlib.Core.Bool.{Bool, true, false, ◌&&◌, ◌||◌}
-use lib.Dec.{eqb, ltb}
-use borrow.Author.Tests.{eq-eqb, ne_eqb}
+use Rattle.std.proofs.Common.{ℕ, ◌%◌, ◌≡◌, ap, Bool, true, false, ◌&&◌, ◌||◌, eqb, ltb, eq-eqb, ne_eqb}
+use mathlib.Core.Path.{fun_ext}
 use Rattle.frames.specs.TableFrame.{event_room}
 use Rattle.sets.specs.EventSet.{member}
 use Rattle.sets.specs.Told.{SetOf, shown}

@@ -25,25 +25,24 @@ pub fn own(kind: usize, operand: usize) -> Offered
     ensures { seen result ≡ code.own kind operand }
 {
     if kind == PREFIX_WORD {
-        return Offered {
+        Offered {
             tau: false,
             plain: false,
             tick: false,
             events: only((operand % 256) as u8),
-        };
-    }
-    if kind == SKIP_WORD {
-        return unseen(false, true);
-    }
-    if kind == STOP_WORD {
-        return Offered {
+        }
+    } else if kind == SKIP_WORD {
+        unseen(false, true)
+    } else if kind == STOP_WORD {
+        Offered {
             tau: true,
             plain: false,
             tick: false,
             events: 0,
-        };
+        }
+    } else {
+        unseen(true, false)
     }
-    unseen(true, false)
 }
 
 // What two sides offer: a choice what either does; a parallel the events that its set lets pass, τ for a side's
@@ -52,18 +51,19 @@ pub fn combined(kind: usize, set: u64, both: bool, l: Offered, r: Offered) -> Of
     ensures { seen result ≡ code.combined kind set both (seen l) (seen r) }
 {
     if kind == PARALLEL_WORD {
-        return Offered {
+        Offered {
             tau: (l.tau | l.tick) | (r.tau | r.tick),
             plain: (l.plain | l.tick) | (r.plain | r.tick),
             tick: both,
             events: shared(set, l.events, r.events),
-        };
-    }
-    Offered {
-        tau: l.tau | r.tau,
-        plain: l.plain | r.plain,
-        tick: l.tick | r.tick,
-        events: either(l.events, r.events),
+        }
+    } else {
+        Offered {
+            tau: l.tau | r.tau,
+            plain: l.plain | r.plain,
+            tick: l.tick | r.tick,
+            events: either(l.events, r.events),
+        }
     }
 }
 
@@ -72,14 +72,15 @@ pub fn settled(nested: bool, o: Offered) -> Offered
     ensures { seen result ≡ code.settled nested (seen o) }
 {
     if nested {
-        return Offered {
+        Offered {
             tau: o.tau | o.tick,
             plain: o.plain | o.tick,
             tick: false,
-            events: o.events,
-        };
+            ..o
+        }
+    } else {
+        o
     }
-    o
 }
 
 // No visible event, and no STOP.
@@ -87,9 +88,9 @@ pub fn unseen(tau: bool, tick: bool) -> Offered
     ensures { seen result ≡ code.unseen tau tick }
 {
     Offered {
-        tau: tau,
+        tau,
         plain: tau,
-        tick: tick,
+        tick,
         events: 0,
     }
 }

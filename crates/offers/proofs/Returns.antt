@@ -1,11 +1,6 @@
 -- What the definitions of the code are at each test: one law a return, over plain variables. Assumes nothing.
-use Prim.Native.Nat.{ℕ, zero, suc, ◌+◌, ◌-◌, ◌≤◌, ◌<◌}
-use mathlib.Core.Path.{◌≡◌, refl, sym, ◌∙◌}
-use mathlib.Core.Bool.{Bool, true, false, ◌&&◌, not}
-use mathlib.Core.List.{List}
-use native.Mathlib.Omega.{arith}
-use lib.Dec.{ltb, eqb}
-use borrow.Author.Tests.{lt-ltb, le-ltb, eq-eqb, ne_eqb, ltb-true, ltb-false}
+use Rattle.std.proofs.Common.{ℕ, zero, suc, ◌+◌, ◌-◌, ◌≤◌, ◌<◌, ◌≡◌, refl, sym, ◌∙◌, Bool, true, false, ◌&&◌, not}
+use Rattle.std.proofs.Common.{List, arith, ltb, eqb, lt-ltb, le-ltb, eq-eqb, ne_eqb, ltb-true, ltb-false}
 use Rattle.frames.specs.TableFrame.{term_room}
 use Rattle.columns.specs.words.Columns.{look}
 use Rattle.rules.specs.Run.{cell_room}
@@ -85,6 +80,11 @@ module _ (i j end : ℕ) where
       go true d true e z = (ltb-true i j d, ltb-true j end e)
       go true d false e z = let y : ◌≡◌ {A = ℕ} 0 1 = cc in absurd (omega arith)
       go false d b e z = let y : ◌≡◌ {A = ℕ} 0 1 = cc in absurd (omega arith)
+
+-- what a negation that fails tells
+pub of_not : (a : Bool) → not a ≡ false → a ≡ true
+of_not true e = refl
+of_not false e = sym e
 
 -- a conjunction by its first part
 pub both_first : (a b : Bool) → a ≡ false → false ≡ a && b

@@ -1,10 +1,6 @@
 -- What is told of a run is what document 01 says of its control: its offers by what is told at its reference, at
 -- the start by the call, and whether it has ended; and of a part of its control by what is told at the part's. Assumes nothing.
-use Prim.Native.Nat.{ℕ, ◌-◌}
-use mathlib.Core.Path.{◌≡◌, refl, ap, sym, ◌∙◌}
-use mathlib.Core.List.{List, []}
-use native.Mathlib.Omega.{arith}
-use borrow.Author.Tests.{ne_eqb}
+use Rattle.std.proofs.Common.{ℕ, ◌-◌, ◌≡◌, refl, ap, sym, ◌∙◌, List, [], arith, ne_eqb}
 use Rattle.rules.specs.Process.{Process}
 use Rattle.rules.specs.Run.{cell_room}
 use Rattle.rules.specs.Step.{at_Ω}

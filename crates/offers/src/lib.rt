@@ -38,9 +38,10 @@ pub fn offers(reference: usize, plan: &Plan, sets: &Payloads, nodes: &Nodes) -> 
         → Controls l plan.now sets.now nodes.now reference P → TellsOffers result P }
 {
     if reference == 0 {
-        return unseen(true, false);
+        unseen(true, false)
+    } else {
+        offers_at(reference, 0, 0, CELL_ROOM, plan, sets, nodes)
     }
-    offers_at(reference, 0, 0, CELL_ROOM, plan, sets, nodes)
 }
 
 // What a part of a run's control offers: what stands at a reference inside sequences up to a bound; at reference 0 a
@@ -119,10 +120,7 @@ fn offers_of_term(t: usize, end: usize, left: usize, plan: &Plan, sets: &Payload
         return unseen(false, false);
     }
     let kind = kind_of(t, plan);
-    if kind < EXTERNAL_WORD {
-        return own(kind, operand_of(t, plan));
-    }
-    if PARALLEL_WORD < kind {
+    if kind < EXTERNAL_WORD || PARALLEL_WORD < kind {
         return own(kind, operand_of(t, plan));
     }
     let first = first_of(t);
@@ -142,64 +140,46 @@ fn offers_of_term(t: usize, end: usize, left: usize, plan: &Plan, sets: &Payload
 fn fits(cells: usize, others: usize, left: usize) -> bool
     ensures { result ≡ code.fits cells others left }
 {
-    if left <= cells {
-        return false;
-    }
-    let rest = left - cells;
-    others < rest
+    cells < left && others < left - cells
 }
 
 // Whether a first subterm stands before a second, and that before the end.
 fn in_order(first: usize, second: usize, end: usize) -> bool
     ensures { result ≡ code.in_order first second end }
 {
-    if second <= first {
-        return false;
-    }
-    second < end
+    first < second && second < end
 }
 
 // Whether a sequence is around the term that stands at reference n, up to a bound.
 fn followed(n: usize, term: usize, bound: usize, plan: &Plan, nodes: &Nodes) -> bool
     ensures { result ≡ code.followed plan.now nodes.now n term bound }
 {
-    if around_of(term, plan) != 0 {
-        return true;
-    }
-    word(n, FRAME, nodes) != bound
+    around_of(term, plan) != 0 || word(n, FRAME, nodes) != bound
 }
 
 // The bound of the sides of the choice or parallel that stands at reference n.
 pub fn inside(n: usize, term: usize, plan: &Plan, nodes: &Nodes) -> usize
     ensures { result ≡ code.bound plan.now nodes.now n term }
 {
-    if kind_of(term, plan) == PARALLEL_WORD {
-        return n;
+    if kind_of(term, plan) == PARALLEL_WORD || around_of(term, plan) != 0 {
+        n
+    } else {
+        word(n, FRAME, nodes)
     }
-    if around_of(term, plan) != 0 {
-        return n;
-    }
-    word(n, FRAME, nodes)
 }
 
 // Whether both sides are at Ω.
 fn both_ended(first: usize, second: usize, nodes: &Nodes) -> bool
     ensures { result ≡ code.ended nodes.now first && code.ended nodes.now second }
 {
-    if ended(first, nodes) {
-        return ended(second, nodes);
-    }
-    false
+    ended(first, nodes) && ended(second, nodes)
 }
 
 // Whether what stands at a reference is Ω.
 pub fn ended(n: usize, nodes: &Nodes) -> bool
     ensures { result ≡ code.ended nodes.now n }
 {
-    if n == 0 {
-        return false;
-    }
-    word(n, STATE, nodes) == OMEGA
+    n != 0 && word(n, STATE, nodes) == OMEGA
 }
 
 // A term's first subterm.

@@ -1,11 +1,7 @@
 -- What a line's bytes meet where the last line or line 1 is due: 2 where they do not form the frame that is due, and then what
 -- their numbers meet. So bytes that meet no refusal are the frame that is due. Assumes nothing.
-use Prim.Native.Nat.{ℕ, ◌+◌}
-use mathlib.Core.Path.{◌≡◌, refl}
-use mathlib.Core.Bool.{Bool, true, false}
-use mathlib.Core.List.{List}
-use native.Mathlib.Omega.{arith}
-use lib.ListN.{get_or}
+use Rattle.std.specs.Prelude.{ℕ, ◌+◌, Bool, true, false, List, get_or, ◌≡◌, refl}
+use Rattle.std.proofs.Common.{arith}
 use Rattle.lines.specs.Line.{choose, number_at}
 use Rattle.graphs.specs.Saved.{arc_code, meeting_code}
 use Rattle.graphs.specs.Parsed.{Frame, opening, node, arc, meeting, last, wrong, pair_at, place_at, formed}

@@ -1,12 +1,8 @@
 -- What the tests on a line's characters make of its frame: the first byte and the length tell whether the frame is the one
 -- that is due. Assumes nothing.
-use Prim.Native.Nat.{ℕ, ◌/◌}
-use mathlib.Core.Path.{◌≡◌, sym, ◌∙◌}
-use mathlib.Core.Bool.{true, false, and-false}
-use mathlib.Core.List.{List}
-use lib.ListN.{length, get_or}
-use lib.Dec.{eqb}
-use borrow.Author.Tests.{eq-eqb, ne_eqb}
+use Rattle.std.specs.Prelude.{ℕ, ◌/◌, true, false, List, length, get_or, eqb, ◌≡◌}
+use Rattle.std.proofs.Common.{sym, ◌∙◌, eq-eqb, ne_eqb}
+use Rattle.std.proofs.Math.Bool.{and-false}
 use Rattle.lines.specs.Line.{number_at}
 use Rattle.numbers.specs.code.Numbers.{read_bytes, byte_at}
 use Rattle.numbers.proofs.Laws.{read_length}

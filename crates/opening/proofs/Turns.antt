@@ -1,34 +1,35 @@
 -- The line reading a line at a time. Where a line is due and none is found, the work stops with the answer's number; where one
 -- is found, it stops with the number that the bytes meet, or goes on from where the next line begins. So behind some lines of
 -- one kind that are read one more is read, and the column with it. Assumes nothing.
-use Prim.Native.Nat.{ℕ, suc, ◌+◌, ◌-◌, ◌≤◌, ◌<◌}
-use mathlib.Core.Path.{◌≡◌, refl, sym, ap, ◌∙◌}
-use mathlib.Core.Bool.{Bool, true, false, ◌&&◌, not}
-use mathlib.Core.List.{List, [], ◌∷◌, ◌++◌, append_assoc, append-nil}
-use mathlib.Core.Option.{some}
-use native.Mathlib.Omega.{arith}
-use lib.ListN.{length, drop, length-append}
-use lib.Dec.{leb, eqb}
-use borrow.Author.Tests.{eq-eqb, ne_eqb, not-true, not-false}
+use Rattle.std.specs.Prelude.{ℕ, suc, ◌+◌, ◌-◌, ◌≤◌, ◌<◌, Bool, true, false, ◌&&◌, not, List, [], ◌∷◌, ◌++◌, Result, Ok, Err, length, drop, leb, eqb, ◌≡◌, refl}
+use Rattle.std.proofs.Common.{sym, ap, ◌∙◌, arith, append_assoc, append-nil, length-append, eq-eqb, ne_eqb}
+use Rattle.std.proofs.lemmas.Bool.{not-true, not-false}
+use Rattle.std.proofs.Math.Option.{some}
 use Rattle.lines.specs.Line.{Raw, lines, bytes, characters, strict_form, answer}
-use Rattle.lines.specs.Line as line
 use Rattle.lines.specs.code.Characters.{part}
 use Rattle.lines.specs.declared.Line.{Line}
 use Rattle.lines.specs.declared.Line.TheVariants.{Found, NoLine, End}
+use Rattle.lines.specs.Refusal.{number, wanted}
+use Rattle.lines.specs.declared.Refusal.{Refusal}
+use Rattle.lines.specs.declared.Refusal.TheVariants.{NotALine, WrongFrame}
+use Rattle.lines.specs.declared.Span.{Span}
 use Rattle.lines.proofs.Laws.{IsLine, is_line, not_a_line, none_left, past}
 use Rattle.numbers.specs.code.Numbers.{read_bytes}
 use Rattle.numbers.proofs.Laws.{bytes_read}
 use Rattle.graphs.specs.Parsed.{opening, frame_of, the_last, refusal, first_refusal}
 use Rattle.opening.specs.code.Phases.{by_frame, line_read, Told, told_stop, told_after, lines_read}
 use Rattle.opening.specs.code.Ends.{counts, opened, none_read, last_read}
-use Rattle.opening.specs.declared.TrackOpened.{TrackOpened}
-use Rattle.opening.specs.declared.TrackOpened.TheVariants.{Track, Fails}
-use Rattle.opening.specs.declared.Lines.{Lines}
-use Rattle.opening.specs.declared.Lines.TheVariants.{Goes, Stops}
+use Rattle.lines.proofs.Refusals.{number_not_0}
+use Rattle.opening.specs.Answers.{TrackOpened, Track, Fails, Lines, Goes, Stops}
 
--- an answer that is no found line
-abbrev pub NotFound : Line → Type 0
-NotFound l = (e n : ℕ) → l ≡ Found e n → ⊥
+-- where a line is wanted: the line that is found
+found_is : (l : Line) {w : Span} → wanted l ≡ Ok w → l ≡ Found w.end w.next
+unfolding wanted
+found_is (Found e n) {w} q =
+    let same : ◌≡◌ {A = Span} (record { end = e; next = n }) w = cc in
+    ap (λ (v : Span). Found v.end v.next) same
+found_is NoLine q = let z : ◌≡◌ {A = ℕ} 0 1 = cc in absurd (omega arith)
+found_is End q = let z : ◌≡◌ {A = ℕ} 0 1 = cc in absurd (omega arith)
 
 -- a line of these characters, with the next line from `next` on
 pub record Held (text : List ℕ) (at next : ℕ) (cs : List ℕ) : Type 0 where
@@ -36,11 +37,12 @@ pub record Held (text : List ℕ) (at next : ℕ) (cs : List ℕ) : Type 0 where
   pub line : IsLine text at end next
   pub stands : (line).held ≡ read_bytes cs
 
-pub held_line : (text : List ℕ) (at : ℕ) {l : Line} {e next : ℕ} {cs : List ℕ}
-    → l ≡ answer at (lines (drop at text)) → l ≡ Found e next → cs ≡ part text at e → Held text at next cs
-held_line text at {l} {e} {next} {cs} seen found chars =
-    let i = is_line text at e next (sym seen ∙ found) in
-    record { end = e; line = i; stands = sym (bytes_read cs i.held (ap bytes chars ∙ i.stands)) }
+pub held_line : (text : List ℕ) (at : ℕ) {l : Line} {x : Result Span Refusal} {w : Span} {cs : List ℕ}
+    → l ≡ answer at (lines (drop at text)) → x ≡ wanted l → x ≡ Ok w → cs ≡ part text at w.end
+    → Held text at w.next cs
+held_line text at {l} {w = w} {cs} seen want found chars =
+    let i = is_line text at w.end w.next (sym seen ∙ found_is l (sym want ∙ found)) in
+    record { end = w.end; line = i; stands = sym (bytes_read cs i.held (ap bytes chars ∙ i.stands)) }
 
 -- a line that is due
 module _ {A : Type 0} (stops : ℕ → A) (meets : List ℕ → ℕ) (leads : List ℕ → ℕ → List Raw → A)
@@ -48,15 +50,19 @@ module _ {A : Type 0} (stops : ℕ → A) (meets : List ℕ → ℕ) (leads : Li
   abbrev here : A
   here = line_read stops meets leads at (lines (drop at text))
 
-  no_line : (l : Line) → l ≡ answer at (lines (drop at text)) → NotFound l → stops (line.refusal l) ≡ here
-  unfolding line.refusal line_read by_frame
-  no_line (Found e n) q h = absurd (h e n refl)
-  no_line NoLine q h = let r = not_a_line strict_form text at (sym q) in rw (r.first, r.broken)
-  no_line End q h = rw (none_left strict_form text at (sym q))
+  no_line : (l : Line) → l ≡ answer at (lines (drop at text)) → {r : Refusal} → wanted l ≡ Err r
+      → stops (number r) ≡ here
+  unfolding wanted number line_read by_frame
+  no_line (Found e n) q h = let z : ◌≡◌ {A = ℕ} 0 1 = cc in absurd (omega arith)
+  no_line NoLine q {r} h =
+      let b = not_a_line strict_form text at (sym q) in
+      let is : ◌≡◌ {A = Refusal} NotALine r = cc in rw (← is, b.first, b.broken)
+  no_line End q {r} h =
+      let is : ◌≡◌ {A = Refusal} WrongFrame r = cc in rw (← is, none_left strict_form text at (sym q))
 
-  none_stops : {l : Line} → l ≡ answer at (lines (drop at text)) → NotFound l → {x : ℕ} → x ≡ line.refusal l
-      → stops x ≡ here
-  none_stops {l} q h e = ap stops e ∙ no_line l q h
+  none_stops : {l : Line} → l ≡ answer at (lines (drop at text)) → {w : Result Span Refusal} → w ≡ wanted l
+      → {r : Refusal} → w ≡ Err r → stops (number r) ≡ here
+  none_stops {l} q want e = no_line l q (sym want ∙ e)
 
   module _ {next : ℕ} {cs : List ℕ} (i : Held text at next cs) {x : ℕ} (met : x ≡ meets (read_bytes cs)) where
     abbrev framed : A
@@ -85,10 +91,10 @@ module _ (text : List ℕ) where
   abbrev counted_on : List ℕ → ℕ → List Raw → TrackOpened
   counted_on bs next ls = counts next (frame_of bs)
 
-  pub opened_none : {l : Line} → l ≡ answer 0 (lines text) → NotFound l → {x : ℕ} → x ≡ line.refusal l
-      → Fails x ≡ opened (lines text)
+  pub opened_none : {l : Line} → l ≡ answer 0 (lines text) → {w : Result Span Refusal} → w ≡ wanted l
+      → {r : Refusal} → w ≡ Err r → Fails (number r) ≡ opened (lines text)
   unfolding opened
-  opened_none q h e = none_stops Fails first_met counted_on text 0 q h e
+  opened_none q want e = none_stops Fails first_met counted_on text 0 q want e
 
   module _ {next : ℕ} {cs : List ℕ} (i : Held text 0 next cs) where
     pub opened_stops : {x : ℕ} → x ≡ first_refusal (frame_of (read_bytes cs)) → (x ≡ 0 → ⊥)
@@ -137,10 +143,10 @@ module _ (text : List ℕ) (at k : ℕ) where
   abbrev ended_on : List ℕ → ℕ → List Raw → Lines
   ended_on bs next ls = none_read (k + 1) next ls
 
-  pub last_none : {l : Line} → l ≡ answer at (lines (drop at text)) → NotFound l → {x : ℕ} → x ≡ line.refusal l
-      → Stops x k ≡ last_read k at (lines (drop at text))
+  pub last_none : {l : Line} → l ≡ answer at (lines (drop at text)) → {w : Result Span Refusal} → w ≡ wanted l
+      → {r : Refusal} → w ≡ Err r → Stops (number r) k ≡ last_read k at (lines (drop at text))
   unfolding last_read
-  last_none q h e = none_stops halted last_met ended_on text at q h e
+  last_none q want e = none_stops halted last_met ended_on text at q want e
 
   module _ {next : ℕ} {cs : List ℕ} (i : Held text at next cs) where
     pub last_stops : 2 ≡ refusal 0 0 the_last (frame_of (read_bytes cs))
@@ -203,13 +209,15 @@ module _ {A : Type 0} (meets : List ℕ → ℕ) (says : List ℕ → A) (text :
       unfolding lines_read
       one_more = let j : m - i ≡ suc (m - (i + 1)) = omega arith in rw j
 
-      pub none_ends : {l : Line} → l ≡ answer at (lines (drop at text)) → NotFound l → {x : ℕ} → x ≡ line.refusal l
-          → {j : ℕ} → j ≡ k + i → Ends new (Stops x j)
-      none_ends q h e {j} n = rw n (ends (one_more ∙ sym (none_stops halts meets others text at q h e)))
+      pub none_ends : {l : Line} → l ≡ answer at (lines (drop at text)) → {w : Result Span Refusal} → w ≡ wanted l
+          → {r : Refusal} → w ≡ Err r → {j : ℕ} → j ≡ k + i → Ends new (Stops (number r) j)
+      none_ends q want e {j} n = rw n (ends (one_more ∙ sym (none_stops halts meets others text at q want e)))
 
       module _ {next : ℕ} {cs : List ℕ} (c : Held text at next cs) {x : ℕ} (met : x ≡ meets (read_bytes cs)) where
-        pub line_ends : (x ≡ 0 → ⊥) → {j : ℕ} → j ≡ k + i → Ends new (Stops x j)
-        line_ends h {j} n = rw n (ends (one_more ∙ sym (line_stops halts meets others text at c met h)))
+        pub line_ends : (r : Refusal) → x ≡ number r → {j : ℕ} → j ≡ k + i → Ends new (Stops (number r) j)
+        line_ends r e {j} n =
+            rw (n, ← e) (ends (one_more ∙ sym (line_stops halts meets others text at c met (λ z.
+            number_not_0 r (sym e ∙ z)))))
 
         pub line_more : x ≡ 0 → {new' : List ℕ} → new' ≡ column (s.so_said ++ (says (read_bytes cs) ∷ []))
             → Sofar new' (i + 1) next

@@ -1,16 +1,9 @@
 -- The parts of the line reading are document 01's. A line that is due leads both readers on in the same way, or stops both. So
 -- line 1 leads to what its counts make due; lines of one kind that are due are read a line at a time, each taken into the graph,
 -- and what is due behind them from where they end; and the last line leads to what the graph says. Assumes nothing.
-use Prim.Native.Nat.{ℕ, zero, suc, ◌+◌, ◌≤◌}
-use mathlib.Core.Path.{◌≡◌, refl, ap, ◌∙◌}
-use mathlib.Core.Bool.{Bool, true, false, ◌&&◌}
-use mathlib.Core.List.{List, [], ◌∷◌, ◌++◌, append_assoc, append-nil}
-use mathlib.Core.Option.{Option, none, some}
-use native.Mathlib.Omega.{arith}
-use native.Mathlib.Nat.{add-zero}
-use lib.ListN.{length, drop, replicate}
-use lib.Dec.{leb, eqb}
-use borrow.Author.Tests.{eqb-true, leb-true}
+use Rattle.std.specs.Prelude.{ℕ, zero, suc, ◌+◌, ◌≤◌, Bool, true, false, ◌&&◌, List, [], ◌∷◌, ◌++◌, length, drop, replicate, leb, eqb, ◌≡◌, refl}
+use Rattle.std.proofs.Common.{ap, ◌∙◌, arith, append_assoc, append-nil, add-zero, eqb-true, leb-true}
+use Rattle.std.proofs.Math.Option.{Option, none, some}
 use Rattle.lines.specs.Line.{choose, Raw, lines, frame, characters, seen, answer_of, answer}
 use Rattle.lines.specs.Judging.{Judged, accepted, refused, at_end, at_line, judged_from}
 use Rattle.lines.specs.declared.Line.TheVariants.{Found}
@@ -24,10 +17,7 @@ use Rattle.graphs.specs.Parsed.{stage_behind, due, number_met, track_lines, pars
 use Rattle.graphs.proofs.DueLines.{rest}
 use Rattle.opening.specs.code.Phases.{by_frame, line_read, Told, told_stop, told_after, lines_read}
 use Rattle.opening.specs.code.Ends.{counts, opened, none_read, last_read}
-use Rattle.opening.specs.declared.TrackOpened.{TrackOpened}
-use Rattle.opening.specs.declared.TrackOpened.TheVariants.{Track, Fails}
-use Rattle.opening.specs.declared.Lines.{Lines}
-use Rattle.opening.specs.declared.Lines.TheVariants.{Goes, Stops}
+use Rattle.opening.specs.Answers.{TrackOpened, Track, Fails, Lines, Goes, Stops}
 use Rattle.opening.proofs.Dues.{last_due}
 
 -- the work behind a part: on from where the next line begins, or refused

@@ -2,24 +2,45 @@
 -- told), and no copy of it. Where it is an equation of the outcome with what was lent, that it settles is immediate, by one law;
 -- a set, and what is offered, are told by their members, which determine them. Assumes nothing.
 use Prim.Native.Nat.{ℕ}
-use mathlib.Core.Path.{◌≡◌, refl, sym, ◌∙◌}
+use mathlib.Core.Path.{◌≡◌, refl, sym, ap, ◌∙◌}
 use mathlib.Core.Bool.{Bool, true, false, false≢true}
-use Rattle.columns.specs.words.Columns.{all_columns}
-use Rattle.tables.specs.words.Columns.{with_columns}
+use Rattle.std.proofs.Common.{List, Option, Result}
+use Rattle.lines.specs.declared.Refusal.{Refusal}
+use Rattle.lines.specs.declared.RefusedAt.{RefusedAt}
+use Rattle.lines.proofs.Refusals.{met_once}
+use Rattle.rules.specs.declared.Event.{Event}
+use Rattle.scripts.proofs.Laws.{step_told_once}
+use Rattle.refusals.proofs.Told.{first_told_once, line_told_once}
+use Rattle.columns.specs.words.Columns.{Columns, all_columns}
+use Rattle.tables.specs.declared.TableCounts.{TableCounts}
+use Rattle.tables.specs.Checked.{checked_told}
+use Rattle.tables.proofs.Told.{checked_told_once}
+use Rattle.tables.specs.words.Columns.{Outcome, with_columns}
 use Rattle.sets.specs.Told.{Emptiness}
 use Rattle.sets.proofs.Told.{told_once}
 use Rattle.offering.proofs.Once.{offers_once}
-use Rattle.runs.specs.code.Doors.{with_answer}
-use Rattle.playing.specs.code.Playing.{with_played}
+use Rattle.runs.specs.Answer.{answer_told}
+use Rattle.runs.specs.code.Doors.{Stepped, with_answer}
+use Rattle.runs.proofs.Laws.{answer_told_once}
+use Rattle.playing.specs.declared.PlayedStep.{PlayedStep}
+use Rattle.playing.specs.Played.{played_told}
+use Rattle.playing.specs.code.Playing.{LinePlayed, with_played}
+use Rattle.playing.proofs.Laws.{played_told_once}
 use Rattle.walks.specs.code.Walked.{with_numbers}
 use Rattle.numbering.specs.code.Numbered.{with_counts}
-use Rattle.writing.specs.words.Slice.{with_slice}
-use Rattle.reading.specs.code.Outcome.{with_graph}
+use Rattle.writing.specs.declared.TooShort.{TooShort}
+use Rattle.writing.specs.Answers.{saved_told}
+use Rattle.writing.specs.words.Slice.{Put, with_slice}
+use Rattle.writing.proofs.Whole.{saved_told_once}
+use Rattle.links.specs.declared.GraphCounts.{GraphCounts}
+use Rattle.reading.specs.Answers.{read_told}
+use Rattle.reading.specs.code.Outcome.{TrackRead, with_graph}
+use Rattle.reading.proofs.Promises.{read_told_once}
 use Rattle.outcomes.specs.Settles.{Settles, ◌beside◌}
 use Rattle.outcomes.proofs.Settling.{by_equation, both}
 use Rattle.lines.proofs.find_line.Reads as lines-find-line
 use Rattle.lines.proofs.part_of.Reads as lines-part-of
-use Rattle.lines.proofs.refusal_of.Reads as lines-refusal-of
+use Rattle.lines.proofs.wanted.Reads as lines-wanted
 use Rattle.desk_lines.proofs.find_desk_line.Reads as desk-lines-find-desk-line
 use Rattle.line_reader.proofs.next_line.Reads as line-reader-next-line
 use Rattle.line_reader.proofs.characters.Reads as line-reader-characters
@@ -66,6 +87,40 @@ one_emptiness s true false p q =
 one_emptiness s false true p q =
     let (k, stands) = p.some_event refl in absurd (false≢true (sym (q.no_event refl k) ∙ stands))
 
+-- what an answer tells with what stands behind it tells the answer
+pub check_once : (x y : Result TableCounts RefusedAt) {c d : Columns}
+    → with_columns (checked_told x) c ≡ with_columns (checked_told y) d → x beside c ≡ y beside d
+check_once x y h = both (checked_told_once x y (ap (λ (o : Outcome). o.answer) h)) (ap (λ (o : Outcome). o.columns) h)
+
+step_once : (x y : Result Event Refusal) {w w' g g' c c' : List ℕ}
+    → with_answer (answer_told x) w g c ≡ with_answer (answer_told y) w' g' c'
+    → x beside w beside g beside c ≡ y beside w' beside g' beside c'
+step_once x y h =
+    both (answer_told_once x y (ap (λ (o : Stepped). o.answer) h)) (both (ap (λ (o : Stepped). o.nodes) h)
+    (both (ap (λ (o : Stepped). o.track) h) (ap (λ (o : Stepped). o.counters) h)))
+
+play_once : (x y : Result (Option PlayedStep) Refusal) {w w' g g' c c' : List ℕ}
+    → with_played (played_told x) w g c ≡ with_played (played_told y) w' g' c'
+    → x beside w beside g beside c ≡ y beside w' beside g' beside c'
+play_once x y h =
+    both (played_told_once x y (ap (λ (o : LinePlayed). o.played) h)) (both (ap (λ (o : LinePlayed). o.nodes) h)
+    (both (ap (λ (o : LinePlayed). o.track) h) (ap (λ (o : LinePlayed). o.counters) h)))
+
+write_once : (x y : Result ℕ TooShort) {a b : List ℕ}
+    → with_slice (saved_told x) a ≡ with_slice (saved_told y) b → x beside a ≡ y beside b
+write_once x y h = both (saved_told_once x y (ap (λ (o : Put). o.answer) h)) (ap (λ (o : Put). o.slice) h)
+
+read_once : (x y : Result GraphCounts RefusedAt) {l l' g g' : List ℕ}
+    → with_graph (read_told x) l g ≡ with_graph (read_told y) l' g' → x beside l beside g ≡ y beside l' beside g'
+read_once x y h =
+    both (read_told_once x y (ap (λ (o : TrackRead). o.answer) h))
+    (both (ap (λ (o : TrackRead). o.labels) h) (ap (λ (o : TrackRead). o.graph) h))
+
+-- what the first part of an outcome tells, in front of the others
+in_front : {A B R : Type 0} {a b : A} {c d : B} {r q : R} → (a ≡ b → c ≡ d) → a beside r ≡ b beside q
+    → c beside r ≡ d beside q
+in_front once h = both (once (ap (λ z. z.0) h)) (ap (λ z. z.1) h)
+
 -- ---- frames
 
 pub lines_find_line_settled : Settles lines-find-line.Learnt (λ κ x s. x)
@@ -74,8 +129,8 @@ lines_find_line_settled = by_equation (λ κ lent x s p. p)
 pub lines_part_of_settled : Settles lines-part-of.Learnt (λ κ x s. x.now)
 lines_part_of_settled = by_equation (λ κ lent x s p. p)
 
-pub lines_refusal_of_settled : Settles lines-refusal-of.Learnt (λ κ x s. x)
-lines_refusal_of_settled = by_equation (λ κ lent x s p. p)
+pub lines_wanted_settled : Settles lines-wanted.Learnt (λ κ x s. x)
+lines_wanted_settled = by_equation (λ κ lent x s p. p)
 
 pub desk_lines_find_desk_line_settled : Settles desk-lines-find-desk-line.Learnt (λ κ x s. x)
 desk_lines_find_desk_line_settled = by_equation (λ κ lent x s p. p)
@@ -94,7 +149,7 @@ numbers_number_settled = by_equation (λ κ lent x s p. p)
 
 pub scripts_next_step_settled : Settles scripts-next-step.Learnt
     (λ κ x s. let (text, (at, (digits, _))) = s in x beside digits.now)
-scripts_next_step_settled = by_equation (λ κ lent x s p. both p.0 p.1)
+scripts_next_step_settled κ lent x y s t p q = both (step_told_once x y (p.0 ∙ sym q.0)) (p.1 ∙ sym q.1)
 
 pub kinds_subterms_settled : Settles kinds-subterms.Learnt (λ κ x s. x)
 kinds_subterms_settled = by_equation (λ κ lent x s p. p)
@@ -103,15 +158,15 @@ pub kinds_payload_bytes_settled : Settles kinds-payload-bytes.Learnt (λ κ x s.
 kinds_payload_bytes_settled = by_equation (λ κ lent x s p. p)
 
 pub refusals_first_line_settled : Settles refusals-first-line.Learnt (λ κ x s. x)
-refusals_first_line_settled = by_equation (λ κ lent x s p. p)
+refusals_first_line_settled κ lent x y s t p q = first_told_once x y (p ∙ sym q)
 
 pub refusals_table_line_settled : Settles refusals-table-line.Learnt (λ κ x s. x)
-refusals_table_line_settled = by_equation (λ κ lent x s p. p)
+refusals_table_line_settled κ lent x y s t p q = line_told_once x y (p ∙ sym q)
 
 pub tables_check_settled : Settles tables-check.Learnt
     (λ κ x s. let (text, (kinds, (payloads, (owners, (after, (roots, _)))))) = s in
-    with_columns x (all_columns kinds.now payloads.now owners.now after.now roots.now))
-tables_check_settled = by_equation (λ κ lent x s p. p)
+    x beside all_columns kinds.now payloads.now owners.now after.now roots.now)
+tables_check_settled κ lent x y s t p q = check_once x y (p ∙ sym q)
 
 pub places_place_settled : Settles places-place.Learnt
     (λ κ x s. let (literal, (kinds, (owners, (after, (roots, (path, _)))))) = s in x beside path.now)
@@ -165,13 +220,13 @@ runs_start_settled = by_equation (λ κ lent x s p. both p.0 (both p.1.0 p.1.1.0
 
 pub runs_step_settled : Settles runs-step.Learnt
     (λ κ x s. let (count, (digits, (plan, (sets, (nodes, (track, (counters, _))))))) = s in
-    with_answer x nodes.now track.now counters.now)
-runs_step_settled = by_equation (λ κ lent x s p. p.0)
+    x beside nodes.now beside track.now beside counters.now)
+runs_step_settled κ lent x y s t p q = step_once x y (p.0 ∙ sym q.0)
 
 pub playing_play_settled : Settles playing-play.Learnt
     (λ κ x s. let (text, (at, (digits, (plan, (sets, (nodes, (track, (counters, _)))))))) = s in
-    with_played x nodes.now track.now counters.now beside digits.now)
-playing_play_settled = by_equation (λ κ lent x s p. both p.0 p.1.0)
+    (x beside nodes.now beside track.now beside counters.now) beside digits.now)
+playing_play_settled κ lent x y s t p q = both (play_once x y (p.0 ∙ sym q.0)) (p.1.0 ∙ sym q.1.0)
 
 -- ---- saving
 
@@ -194,29 +249,41 @@ numbering_number_settled =
 
 pub writing_write_settled : Settles writing-write.Learnt
     (λ κ x s. let (counts, (labels, (graph, (kinds, (owners, (after, (roots, (text, _)))))))) = s in
-    with_slice x text.now)
-writing_write_settled = by_equation (λ κ lent x s p. p)
+    x beside text.now)
+writing_write_settled κ lent x y s t p q = write_once x y (p ∙ sym q)
 
 pub writing_refusal_of_settled : Settles writing-refusal-of.Learnt (λ κ x s. x)
-writing_refusal_of_settled = by_equation (λ κ lent x s p. p)
+writing_refusal_of_settled κ lent x y s t p q = met_once x y (p ∙ sym q)
 
-pub saving_save_settled : Settles saving-save.Learnt
+saving_told : Settles saving-save.Learnt
     (λ κ x s. let (kinds, (owners, (after, (roots, (nodes, (track, (counters, (labels, (graph, (marks, (sides, (pending, (numbers, (spare, (text, _))))))))))))))) = s in
-    with_slice x text.now beside labels.now beside graph.now beside marks.now beside sides.now
+    with_slice (saved_told x) text.now beside labels.now beside graph.now beside marks.now beside sides.now
     beside pending.now beside numbers.now beside spare.now)
-saving_save_settled =
+saving_told =
     by_equation (λ κ lent x s p. both p.0 (both p.1.0 (both p.1.1.0 (both p.1.1.1.0
     (both p.1.1.1.1.0 (both p.1.1.1.1.1.0
     (both p.1.1.1.1.1.1.0 p.1.1.1.1.1.1.1.0)))))))
 
-pub reading_read_track_settled : Settles reading-read-track.Learnt
+pub saving_save_settled : Settles saving-save.Learnt
+    (λ κ x s. let (kinds, (owners, (after, (roots, (nodes, (track, (counters, (labels, (graph, (marks, (sides, (pending, (numbers, (spare, (text, _))))))))))))))) = s in
+    (x beside text.now) beside labels.now beside graph.now beside marks.now beside sides.now
+    beside pending.now beside numbers.now beside spare.now)
+saving_save_settled κ lent x y s t p q = in_front (write_once x y) (saving_told κ lent x y s t p q)
+
+reading_told : Settles reading-read-track.Learnt
     (λ κ x s. let (text, (definitions, (kinds, (payloads, (after, (roots, (labels, (graph, (marks, (track, (sides, (pending, (numbers, (walked, _)))))))))))))) = s in
-    with_graph x labels.now graph.now beside marks.now beside track.now beside sides.now
+    with_graph (read_told x) labels.now graph.now beside marks.now beside track.now beside sides.now
     beside pending.now beside numbers.now beside walked.now)
-reading_read_track_settled =
+reading_told =
     by_equation (λ κ lent x s p. both p.0 (both p.1.1.0 (both p.1.1.1.0
     (both p.1.1.1.1.0 (both p.1.1.1.1.1.0
     (both p.1.1.1.1.1.1.0 p.1.1.1.1.1.1.1))))))
+
+pub reading_read_track_settled : Settles reading-read-track.Learnt
+    (λ κ x s. let (text, (definitions, (kinds, (payloads, (after, (roots, (labels, (graph, (marks, (track, (sides, (pending, (numbers, (walked, _)))))))))))))) = s in
+    (x beside labels.now beside graph.now) beside marks.now beside track.now beside sides.now
+    beside pending.now beside numbers.now beside walked.now)
+reading_read_track_settled κ lent x y s t p q = in_front (read_once x y) (reading_told κ lent x y s t p q)
 
 -- ---- programs
 

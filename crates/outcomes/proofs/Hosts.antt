@@ -3,6 +3,10 @@
 -- Assumes nothing.
 use Prim.Native.Nat.{ℕ}
 use mathlib.Core.Path.{◌≡◌, sym, ◌∙◌, ap}
+use mir.Syntax.{Dict}
+use denote.RattleType.{RattleType}
+use denote.Param.Laws.{Laws, IsCopy}
+use Rattle.std.specs.declared.clone.Clone.{Ghosts}
 use Rattle.columns.specs.words.Columns.{all_columns}
 use Rattle.sets.proofs.Told.{same_members}
 use Rattle.table_parts.specs.code.TableTold.{with_table}
@@ -17,10 +21,8 @@ use Rattle.answers.proofs.of_refusal.Reads as answers-of-refusal
 use Rattle.answers.proofs.of_step.Reads as answers-of-step
 use Rattle.answers.proofs.of_played.Reads as answers-of-played
 use Rattle.answers.proofs.cursor_behind.Reads as answers-cursor-behind
-use Rattle.answers.proofs.of_checked.Reads as answers-of-checked
-use Rattle.answers.proofs.line_of_checked.Reads as answers-line-of-checked
-use Rattle.answers.proofs.of_read.Reads as answers-of-read
-use Rattle.answers.proofs.line_of_read.Reads as answers-line-of-read
+use Rattle.answers.proofs.of_judged.Reads as answers-of-judged
+use Rattle.answers.proofs.line_of.Reads as answers-line-of
 use Rattle.answers.proofs.of_saved.Reads as answers-of-saved
 use Rattle.answers.proofs.length_of.Reads as answers-length-of
 use Rattle.answers.proofs.unready.Reads as answers-unready
@@ -63,17 +65,13 @@ answers_of_played_settled = by_equation (λ κ lent x s p. p)
 pub answers_cursor_behind_settled : Settles answers-cursor-behind.Learnt (λ κ x s. x)
 answers_cursor_behind_settled = by_equation (λ κ lent x s p. p)
 
-pub answers_of_checked_settled : Settles answers-of-checked.Learnt (λ κ x s. x)
-answers_of_checked_settled = by_equation (λ κ lent x s p. p)
+pub answers_of_judged_settled : (T : RattleType) (l : Laws T) (c : IsCopy T) (g : Ghosts T.Denot) (d : Dict)
+    → Settles (answers-of-judged.Learnt T l c g d) (λ κ x s. x)
+answers_of_judged_settled T l c g d = by_equation (λ κ lent x s p. p)
 
-pub answers_line_of_checked_settled : Settles answers-line-of-checked.Learnt (λ κ x s. x)
-answers_line_of_checked_settled = by_equation (λ κ lent x s p. p)
-
-pub answers_of_read_settled : Settles answers-of-read.Learnt (λ κ x s. x)
-answers_of_read_settled = by_equation (λ κ lent x s p. p)
-
-pub answers_line_of_read_settled : Settles answers-line-of-read.Learnt (λ κ x s. x)
-answers_line_of_read_settled = by_equation (λ κ lent x s p. p)
+pub answers_line_of_settled : (T : RattleType) (l : Laws T) (c : IsCopy T) (g : Ghosts T.Denot) (d : Dict)
+    → Settles (answers-line-of.Learnt T l c g d) (λ κ x s. x)
+answers_line_of_settled T l c g d = by_equation (λ κ lent x s p. p)
 
 pub answers_of_saved_settled : Settles answers-of-saved.Learnt (λ κ x s. x)
 answers_of_saved_settled = by_equation (λ κ lent x s p. p)

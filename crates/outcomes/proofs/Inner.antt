@@ -1,17 +1,18 @@
 -- The promise of every public function that is no door settles its outcome too, by the same laws as a door's. Assumes nothing.
 use mathlib.Core.Path.{sym, ◌∙◌}
+use Rattle.loaded.specs.words.Held.{held}
 use Rattle.offering.proofs.Once.{offers_once}
 use Rattle.leaves.specs.code.Leaves.{with_words}
 use Rattle.pairing.specs.code.Renumbered.{with_count}
+use Rattle.lines.proofs.Refusals.{told_once}
+use Rattle.opening.proofs.Handed.{opened_told_once, lines_told_once}
 use Rattle.outcomes.specs.Settles.{Settles, ◌beside◌}
 use Rattle.outcomes.proofs.Settling.{by_equation, both}
+use Rattle.outcomes.proofs.Doors.{check_once}
 use Rattle.numbers.proofs.number_at.Reads as numbers-number-at
 use Rattle.numbers.proofs.byte_at.Reads as numbers-byte-at
-use Rattle.numbers.proofs.wide.Reads as numbers-wide
 use Rattle.frames.proofs.read_frame.Reads as frames-read-frame
 use Rattle.frames.proofs.closes.Reads as frames-closes
-use Rattle.refusals.proofs.stop_of.Reads as refusals-stop-of
-use Rattle.refusals.proofs.failure_of.Reads as refusals-failure-of
 use Rattle.columns.proofs.kind_of.Reads as columns-kind-of
 use Rattle.columns.proofs.payload_of.Reads as columns-payload-of
 use Rattle.columns.proofs.owner_of.Reads as columns-owner-of
@@ -19,7 +20,6 @@ use Rattle.columns.proofs.after_of.Reads as columns-after-of
 use Rattle.columns.proofs.after_word.Reads as columns-after-word
 use Rattle.columns.proofs.root_of.Reads as columns-root-of
 use Rattle.columns.proofs.root_word.Reads as columns-root-word
-use Rattle.columns.proofs.wide.Reads as columns-wide
 use Rattle.filling.proofs.take.Reads as filling-take
 use Rattle.filling.proofs.walk.Reads as filling-walk
 use Rattle.marks.proofs.own_mark.Reads as marks-own-mark
@@ -30,6 +30,7 @@ use Rattle.marks.proofs.term_of.Reads as marks-term-of
 use Rattle.marks.proofs.is_own.Reads as marks-is-own
 use Rattle.marks.proofs.is_event.Reads as marks-is-event
 use Rattle.inputs.proofs.input_room.Reads as inputs-input-room
+use Rattle.inputs.proofs.table_and_script.Reads as inputs-table-and-script
 use Rattle.plans.proofs.kind_of.Reads as plans-kind-of
 use Rattle.plans.proofs.operand_of.Reads as plans-operand-of
 use Rattle.plans.proofs.second_of.Reads as plans-second-of
@@ -93,7 +94,6 @@ use Rattle.spelling.proofs.put_byte.Reads as spelling-put-byte
 use Rattle.spelling.proofs.put_end.Reads as spelling-put-end
 use Rattle.links.proofs.reference_word.Reads as links-reference-word
 use Rattle.links.proofs.side_word.Reads as links-side-word
-use Rattle.links.proofs.at_most.Reads as links-at-most
 use Rattle.sorting.proofs.sort.Reads as sorting-sort
 use Rattle.pairing.proofs.renumber.Reads as pairing-renumber
 use Rattle.framing.proofs.put_opening.Reads as framing-put-opening
@@ -111,6 +111,9 @@ use Rattle.shape_rules.proofs.all_marked.Reads as shape-rules-all-marked
 use Rattle.shape_rules.proofs.ascend.Reads as shape-rules-ascend
 use Rattle.shape_rules.proofs.join_events.Reads as shape-rules-join-events
 use Rattle.shapes.proofs.has_shape.Reads as shapes-has-shape
+use Rattle.loaded.proofs.Table.new.Reads as loaded-new
+use Rattle.loaded.proofs.Table.check.Reads as loaded-check
+use Rattle.loaded.proofs.Table.place.Reads as loaded-place
 use Rattle.telling.proofs.put_event.Reads as telling-put-event
 use Rattle.telling.proofs.put_status.Reads as telling-put-status
 use Rattle.telling.proofs.put_refusal.Reads as telling-put-refusal
@@ -124,20 +127,11 @@ numbers_number_at_settled = by_equation (λ κ lent x s p. p.0)
 pub numbers_byte_at_settled : Settles numbers-byte-at.Learnt (λ κ x s. x)
 numbers_byte_at_settled = by_equation (λ κ lent x s p. p.0)
 
-pub numbers_wide_settled : Settles numbers-wide.Learnt (λ κ x s. x)
-numbers_wide_settled = by_equation (λ κ lent x s p. p.0)
-
 pub frames_read_frame_settled : Settles frames-read-frame.Learnt (λ κ x s. x)
 frames_read_frame_settled = by_equation (λ κ lent x s p. p)
 
 pub frames_closes_settled : Settles frames-closes.Learnt (λ κ x s. x)
 frames_closes_settled = by_equation (λ κ lent x s p. p)
-
-pub refusals_stop_of_settled : Settles refusals-stop-of.Learnt (λ κ x s. x)
-refusals_stop_of_settled = by_equation (λ κ lent x s p. p)
-
-pub refusals_failure_of_settled : Settles refusals-failure-of.Learnt (λ κ x s. x)
-refusals_failure_of_settled = by_equation (λ κ lent x s p. p)
 
 pub columns_kind_of_settled : Settles columns-kind-of.Learnt (λ κ x s. x)
 columns_kind_of_settled = by_equation (λ κ lent x s p. p)
@@ -159,9 +153,6 @@ columns_root_of_settled = by_equation (λ κ lent x s p. p)
 
 pub columns_root_word_settled : Settles columns-root-word.Learnt (λ κ x s. x)
 columns_root_word_settled = by_equation (λ κ lent x s p. p)
-
-pub columns_wide_settled : Settles columns-wide.Learnt (λ κ x s. x)
-columns_wide_settled = by_equation (λ κ lent x s p. p)
 
 pub filling_take_settled : Settles filling-take.Learnt
     (λ κ x s. let (frame, (seen, (waiting, (kinds, (payloads, (owners, (roots, _))))))) = s in
@@ -197,6 +188,9 @@ marks_is_event_settled = by_equation (λ κ lent x s p. p)
 
 pub inputs_input_room_settled : Settles inputs-input-room.Learnt (λ κ x s. x)
 inputs_input_room_settled = by_equation (λ κ lent x s p. p)
+
+pub inputs_table_and_script_settled : Settles inputs-table-and-script.Learnt (λ κ x s. x.0.now beside x.1.now)
+inputs_table_and_script_settled = by_equation (λ κ lent x s p. both p.0 p.1)
 
 -- ---- rules
 
@@ -391,7 +385,7 @@ pub counting_counter_settled : Settles counting-counter.Learnt (λ κ x s. x)
 counting_counter_settled = by_equation (λ κ lent x s p. p)
 
 pub counting_over_room_settled : Settles counting-over-room.Learnt (λ κ x s. x)
-counting_over_room_settled = by_equation (λ κ lent x s p. p)
+counting_over_room_settled κ lent x y s t p q = told_once x y (p ∙ sym q)
 
 pub counting_tally_of_settled : Settles counting-tally-of.Learnt (λ κ x s. x)
 counting_tally_of_settled = by_equation (λ κ lent x s p. p)
@@ -419,9 +413,6 @@ links_reference_word_settled = by_equation (λ κ lent x s p. p)
 
 pub links_side_word_settled : Settles links-side-word.Learnt (λ κ x s. x)
 links_side_word_settled = by_equation (λ κ lent x s p. p)
-
-pub links_at_most_settled : Settles links-at-most.Learnt (λ κ x s. x)
-links_at_most_settled = by_equation (λ κ lent x s p. p)
 
 pub sorting_sort_settled : Settles sorting-sort.Learnt
     (λ κ x s. let (nodes, (base, (count, (track, (spare, (starts, _)))))) = s in
@@ -456,20 +447,20 @@ pub finding_mark_of_settled : Settles finding-mark-of.Learnt (λ κ x s. x)
 finding_mark_of_settled = by_equation (λ κ lent x s p. p)
 
 pub opening_first_line_settled : Settles opening-first-line.Learnt (λ κ x s. x)
-opening_first_line_settled = by_equation (λ κ lent x s p. p)
+opening_first_line_settled κ lent x y s t p q = opened_told_once x y (p ∙ sym q)
 
 pub opening_last_lines_settled : Settles opening-last-lines.Learnt (λ κ x s. x)
-opening_last_lines_settled = by_equation (λ κ lent x s p. p)
+opening_last_lines_settled κ lent x y s t p q = lines_told_once x y (p ∙ sym q)
 
 pub node_lines_read_nodes_settled : Settles node-lines-read-nodes.Learnt
     (λ κ x s. let (text, (from, (count, (definitions, (kinds, (after, (roots, (labels, _)))))))) = s in
     x beside labels.now)
-node_lines_read_nodes_settled = by_equation (λ κ lent x s p. both p.0 p.1)
+node_lines_read_nodes_settled κ lent x y s t p q = both (lines_told_once x y (p.0 ∙ sym q.0)) (p.1 ∙ sym q.1)
 
 pub pair_lines_read_pairs_settled : Settles pair-lines-read-pairs.Learnt
     (λ κ x s. let (code, (base, (text, (from, (first, (count, (nodes, (graph, _)))))))) = s in
     x beside graph.now)
-pair_lines_read_pairs_settled = by_equation (λ κ lent x s p. both p.0 p.1)
+pair_lines_read_pairs_settled κ lent x y s t p q = both (lines_told_once x y (p.0 ∙ sym q.0)) (p.1 ∙ sym q.1)
 
 pub shape_rules_in_order_settled : Settles shape-rules-in-order.Learnt (λ κ x s. x)
 shape_rules_in_order_settled = by_equation (λ κ lent x s p. p)
@@ -491,6 +482,17 @@ shapes_has_shape_settled =
     (both p.1.1.1.0 p.1.1.1.1))))
 
 -- ---- programs
+
+pub loaded_new_settled : Settles loaded-new.Learnt (λ κ x s. held x)
+loaded_new_settled = by_equation (λ κ lent x s p. p)
+
+pub loaded_check_settled : Settles loaded-check.Learnt
+    (λ κ x s. let (table, (text, _)) = s in x beside held table.now)
+loaded_check_settled κ lent x y s t p q = check_once x y (p ∙ sym q)
+
+pub loaded_place_settled : Settles loaded-place.Learnt
+    (λ κ x s. let (table, (literal, (path, _))) = s in x beside path.now)
+loaded_place_settled = by_equation (λ κ lent x s p. both p.0 p.1)
 
 pub telling_put_event_settled : Settles telling-put-event.Learnt
     (λ κ x s. let (event, (at, (out, _))) = s in x beside out.now)

@@ -1,17 +1,10 @@
 -- Pairs by the numbers of their ends. What a pair becomes goes behind what those in front of it became, so
 -- the words are put one pair at a time; where no number passes a bound, neither does an end. Assumes nothing.
-use Prim.Native.Nat.{ℕ, zero, suc, ◌+◌, ◌*◌, ◌-◌, ◌≤◌, ◌<◌}
-use mathlib.Core.Path.{◌≡◌, refl, sym, ap, ◌∙◌}
-use mathlib.Core.Bool.{Bool, true, false, ◌&&◌, and-false}
-use mathlib.Core.List.{List, [], ◌∷◌, ◌++◌, append_assoc, append-nil}
-use mathlib.Core.Logic.{◌⊎◌, inl, inr}
-use native.Mathlib.Omega.{arith}
-use native.Mathlib.Nat.{add-zero}
-use native.Mathlib.Numerals.{add-one}
-use lib.ListN.{length, set, length-append}
-use lib.Seq.{sets}
-use lib.Dec.{ltb}
-use borrow.Author.Tests.{lt-ltb, le-ltb}
+use Rattle.std.proofs.Common.{ℕ, zero, suc, ◌+◌, ◌*◌, ◌-◌, ◌≤◌, ◌<◌, ◌≡◌, refl, sym, ap, ◌∙◌, Bool, true, false, ◌&&◌, List}
+use Rattle.std.proofs.Common.{[], ◌∷◌, ◌++◌, append_assoc, append-nil, ◌⊎◌, inl, inr, length, set, length-append, arith}
+use Rattle.std.proofs.Common.{add-zero, add-one, ltb, lt-ltb, le-ltb}
+use Rattle.std.proofs.lemmas.List.Edits.{sets}
+use mathlib.Core.Bool.{and-false}
 use Rattle.lines.specs.Line.{choose}
 use Rattle.rules.specs.Track.{Pair, pair}
 use Rattle.control.specs.words.Words.{track_word}
@@ -73,19 +66,21 @@ module _ (either : Bool) (there kept : ℕ) (w : List ℕ) where
       go false = (refl, refl)
 
   module _ (first second : ℕ) (p : first ≡ 0 → ⊥) (q : second ≡ 0 → ⊥) where
-    pub both_turned : either ≡ true → second - 1 < first - 1
+    pub both_turned : either ≡ true → second < first
         → (kept + 1 ≡ kept + length (renumbered_one either first second))
         × (set (set w there (second - 1)) (there + 1) (first - 1)
         ≡ sets w there (flat (renumbered_one either first second)))
-    both_turned e h = both_kept first second p q true (rw e (lt-ltb (second - 1) (first - 1) h))
+    both_turned e h =
+        both_kept first second p q true (rw e (lt-ltb (second - 1) (first - 1) (omega arith)))
 
-    pub both_straight : (either ≡ false) ⊎ (first - 1 ≤ second - 1)
+    pub both_straight : (either ≡ false) ⊎ (first ≤ second)
         → (kept + 1 ≡ kept + length (renumbered_one either first second))
         × (set (set w there (first - 1)) (there + 1) (second - 1)
         ≡ sets w there (flat (renumbered_one either first second)))
     both_straight (inl e) = both_kept first second p q false (rw e)
     both_straight (inr l) =
-        both_kept first second p q false (rw (le-ltb (second - 1) (first - 1) l) (and-false either))
+        both_kept first second p q false
+        (rw (le-ltb (second - 1) (first - 1) (omega arith)) (and-false either))
 
 -- what two lists become, one behind the other
 renumbered_append : (either : Bool) (ns : List ℕ) (as' bs : List Pair)

@@ -8,7 +8,7 @@ ghost use Rattle.links.specs.words.Columns.{at, flat};
 ghost use Rattle.pairing.specs.code.Renumbered as of;
 ghost use Rattle.control.specs.words.Words.{track_words};
 
-use control::{REFERENCES, Track, track_word};
+use control::{Track, track_word};
 use links::Column;
 
 // Puts the numbers of so many pairs of a track, from a word on, to the same words of another, those whose two ends have
@@ -26,13 +26,11 @@ pub fn renumber(
         (of.renumbered either numbers.now (pairs base track.now 0 count)) }
 {
     let mut kept: usize = 0;
-    let mut i: usize = 0;
-    while i < count {
+    for i in 0..count {
         let at = base + 2 * i;
         let first = number_of(track_word(at, track), numbers);
         let second = number_of(track_word(at + 1, track), numbers);
         kept = keep(first, second, either, base + 2 * kept, kept, to);
-        i += 1;
     }
     kept
 }
@@ -41,7 +39,7 @@ pub fn renumber(
 fn number_of(n: usize, numbers: &Column) -> u16
     ensures { result ≡ at numbers.now n }
 {
-    if n < REFERENCES { numbers[n] } else { 0 }
+    numbers.get(n).copied().unwrap_or(0)
 }
 
 // Puts a pair of numbers, by one more than each, where both ends have one.
@@ -50,22 +48,15 @@ fn keep(first: u16, second: u16, either: bool, at: usize, kept: usize, to: &mut 
     ensures value { result ≡ kept + length (of.renumbered_one either first second) }
     ensures to_after { to.new ≡ sets to.old at (flat (of.renumbered_one either first second)) }
 {
-    if first == 0 {
+    if first == 0 || second == 0 {
         return kept;
     }
-    if second == 0 {
-        return kept;
-    }
-    let low = first - 1;
-    let high = second - 1;
-    if either {
-        if high < low {
-            to[at] = high;
-            to[at + 1] = low;
-            return kept + 1;
-        }
-    }
-    to[at] = low;
-    to[at + 1] = high;
+    let (low, high) = if either && second < first {
+        (second, first)
+    } else {
+        (first, second)
+    };
+    to[at] = low - 1;
+    to[at + 1] = high - 1;
     kept + 1
 }

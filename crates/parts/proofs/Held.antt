@@ -2,14 +2,9 @@
 -- that holds it, a sequence at a time, where the levels left reach past the longest path; a control by induction along
 -- the words that hold it, under all sequences around it. An untouched term goes by its plan; of an entered choice or
 -- parallel the words tell both sides, which have fewer cells. Assumes nothing.
-use Prim.Native.Nat.{ℕ, suc, ◌+◌, ◌-◌, ◌≤◌, ◌<◌}
-use mathlib.Core.Path.{◌≡◌, refl, ap, sym, ◌∙◌}
-use mathlib.Core.Bool.{true, false}
-use mathlib.Core.List.{List, [], ◌∷◌}
+use Rattle.std.proofs.Common.{ℕ, suc, ◌+◌, ◌-◌, ◌≤◌, ◌<◌, ◌≡◌, refl, ap, sym, ◌∙◌, true, false, List, []}
+use Rattle.std.proofs.Common.{◌∷◌, arith, add-one, length}
 use mathlib.Core.Option.{Option, none, some}
-use native.Mathlib.Omega.{arith}
-use native.Mathlib.Numerals.{add-one}
-use lib.ListN.{length}
 use Rattle.frames.specs.TableFrame.{path_room}
 use Rattle.terms.specs.Term.{Leaf, call, SKIP, STOP, Operator, external, parallel, Term, Shallow, leaf_kind}
 use Rattle.terms.specs.Term.{operator_kind}

@@ -1,16 +1,12 @@
 -- What the definitions of the code are at each test: one law a return, over plain variables. Assumes nothing.
-use Prim.Native.Nat.{ℕ, suc}
-use mathlib.Core.Path.{◌≡◌}
-use mathlib.Core.Bool.{true, false}
-use mathlib.Core.List.{List}
-use borrow.Author.Tests.{eq-eqb, ne_eqb}
+use Rattle.std.proofs.Common.{ℕ, suc, ◌≡◌, true, List, eq-eqb, ne_eqb}
 use Rattle.plans.specs.words.Plan.{kind, second}
 use Rattle.control.specs.words.Control.{state, term, first, second_side}
 use Rattle.offers.specs.code.Following.{first_of, levels, bound}
 use Rattle.parts.specs.declared.Part.{Part}
 use Rattle.parts.specs.declared.Sides.{Sides}
 use Rattle.parts.specs.declared.Standing.{Standing}
-use Rattle.parts.specs.declared.Standing.TheVariants.{Term, Split, Ended, Dead}
+use Rattle.parts.specs.declared.Standing.TheVariants.{Split, Ended, Dead}
 use Rattle.parts.specs.code.Parts.{unsequenced, by_kind, of_term, subterms, by_state, stepped_sides}
 use Rattle.parts.specs.code.Parts.{standing_at, sides_at, standing, sides}
 
@@ -28,20 +24,6 @@ module _ (p : List ℕ) (t f : ℕ) where
     pub passed_one : kind p t ≡ 5 → unsequenced f p t ≡ unsequenced g p (first_of t)
     unfolding unsequenced
     passed_one h = rw (more, h)
-
--- a term by its kind
-module _ (k t : ℕ) where
-  pub kind_choice : k ≡ 4 → Split t false ≡ by_kind k t
-  unfolding by_kind
-  kind_choice h = simp (eq-eqb k 4 h)
-
-  pub kind_parallel : (k ≡ 4 → ⊥) → k ≡ 6 → Split t false ≡ by_kind k t
-  unfolding by_kind
-  kind_parallel h m = simp (ne_eqb k 4 h, eq-eqb k 6 m)
-
-  pub kind_other : (k ≡ 4 → ⊥) → (k ≡ 6 → ⊥) → Term t ≡ by_kind k t
-  unfolding by_kind
-  kind_other h m = simp (ne_eqb k 4 h, ne_eqb k 6 m)
 
 -- what stands in a term, and its subterms, where the sequences around it are passed
 module _ (p : List ℕ) (t u : ℕ) (is : u ≡ unsequenced levels p t) where

@@ -59,19 +59,15 @@ pub fn standing_in(part: Part, plan: &Plan, nodes: &Nodes) -> Standing
     }
     let state = word(part.reference, STATE, nodes);
     let term = word(part.reference, TERM, nodes);
-    if state == UNTOUCHED {
-        return of_term(term, plan);
-    }
-    if state == ENTERED {
-        return Standing::Split {
+    match state {
+        UNTOUCHED => of_term(term, plan),
+        ENTERED => Standing::Split {
             term,
             entered: true,
-        };
+        },
+        OMEGA => Standing::Ended,
+        _ => Standing::Dead,
     }
-    if state == OMEGA {
-        return Standing::Ended;
-    }
-    Standing::Dead
 }
 
 // The sides of the choice or parallel that stands in a part. Where none does, the answer says nothing.
@@ -108,13 +104,7 @@ fn of_term(t: usize, plan: &Plan) -> Standing
 {
     let term = unsequenced(t, plan);
     let kind = kind_of(term, plan);
-    if kind == EXTERNAL_WORD {
-        return Standing::Split {
-            term,
-            entered: false,
-        };
-    }
-    if kind == PARALLEL_WORD {
+    if kind == EXTERNAL_WORD || kind == PARALLEL_WORD {
         return Standing::Split {
             term,
             entered: false,
@@ -147,13 +137,11 @@ fn unsequenced(t: usize, plan: &Plan) -> usize
     ensures { result ≡ code.unsequenced levels plan.now t }
 {
     let mut term = t;
-    let mut left = OFFER_LEVELS;
-    while 0 < left {
+    for _ in 0..OFFER_LEVELS {
         if kind_of(term, plan) != SEQUENCE_WORD {
             return term;
         }
         term = first_of(term);
-        left -= 1;
     }
     term
 }

@@ -1,18 +1,11 @@
 -- What a caller may rely on. By induction over the sides of terms each literal of a term has exactly one
 -- place, of at most 64 digits, and following columns which hold a term gives its paths; so the door `place`
 -- answers with the places of a table's literals. Assumes nothing.
-use Prim.Native.Nat.{ℕ, zero, suc, ◌+◌, ◌≤◌, ◌<◌}
-use mathlib.Core.Path.{◌≡◌, refl, sym, ap, ◌∙◌}
-use mathlib.Core.Bool.{Bool, true, false}
-use mathlib.Core.List.{List, [], ◌∷◌, ◌++◌, append-nil}
-use mathlib.Core.Option.{Option, none, some}
-use mathlib.Core.Logic.{◌↔◌}
-use native.Mathlib.Omega.{arith}
-use native.Mathlib.Nat.{add-zero, add_assoc}
-use native.Mathlib.Numerals.{add-one}
-use lib.ListN.{length, get_or, get_elem?, length-append}
-use lib.Dec.{eqb}
-use borrow.Author.Tests.{eqb-true, eq-eqb, ne_eqb}
+use Rattle.std.proofs.Common.{◌≡◌, ℕ, zero, suc, ◌+◌, ◌<◌, ◌≤◌, Bool, true, false, eqb, ◌↔◌, List, [], ◌∷◌}
+use Rattle.std.proofs.Common.{◌++◌, length, get_or, None, sym, refl, ap, ◌∙◌, append-nil, add-zero, add_assoc}
+use Rattle.std.proofs.Common.{add-one, arith, length-append, eq-eqb, ne_eqb, eqb-true}
+use Rattle.std.proofs.Math.ListN.{get_elem?}
+use Rattle.std.proofs.Math.Option.{Option, none, some}
 use Rattle.lines.specs.Line.{choose}
 use Rattle.lines.specs.Judging.{accepted}
 use Rattle.kinds.specs.Kind as Kind
@@ -27,10 +20,9 @@ use Rattle.places.specs.Place.{path_in, term_at, IsPrefix, PrefixAt, event_path,
 use Rattle.places.specs.Place.{own, event, shifted, event_end, literal_at}
 use Rattle.columns.specs.words.Columns.{Columns, look, columns}
 use Rattle.places.specs.code.Descent.{next, digit, below, descended, path_of, with_event, event_of}
-use Rattle.places.specs.code.Descent.{literal_path, literal_definition, told, answer}
+use Rattle.places.specs.code.Descent.{literal_path, literal_definition, at, told, answer}
 use Rattle.places.specs.declared.Literal.{Literal as Asked}
 use Rattle.places.specs.declared.Literal.TheVariants.{Left, Own, Event}
-use Rattle.places.specs.declared.Placed.TheVariants.{At, Nowhere}
 use Rattle.places.proofs.Sides.{Side, only, first, second, by_number, path_root, term_root}
 use Rattle.places.proofs.Sides.{literal_root, side_first, side_inside, side_at, side_literal}
 use Rattle.places.proofs.Sides.{side_shallow, prefix_inside}
@@ -311,7 +303,7 @@ checked_roots text s q k t e =
 
 -- a literal's answer is definition k and its path w
 abbrev pub Answers : Columns → Asked → ℕ → List ℕ → Type 0
-Answers c l k w = (answer c l ≡ At k (length w)) × (literal_path c l ≡ some w)
+Answers c l k w = (answer c l ≡ at k (length w)) × (literal_path c l ≡ some w)
 
 answered : (c : Columns) (l : Asked) (k : ℕ) (w : List ℕ) → literal_definition c l ≡ k
     → literal_path c l ≡ some w → Answers c l k w
@@ -358,7 +350,7 @@ module _ (c : Columns) (ts : List Term) (all : Roots c ts) (k : ℕ) (t : Term) 
       answered c (Event (root c k + n)) k _ (owner_is h)
       (simp (eq-eqb _ Kind.prefix ((prefix_there h).1 p), path))
 
-  pub event_nowhere : n < size t → (PrefixAt t n → ⊥) → answer c (Event (root c k + n)) ≡ Nowhere
+  pub event_nowhere : n < size t → (PrefixAt t n → ⊥) → answer c (Event (root c k + n)) ≡ None
   unfolding answer told literal_path event_of
   event_nowhere h none_there = simp (ne_eqb _ Kind.prefix (λ e. none_there ((prefix_there h).0 e)))
 
@@ -370,14 +362,14 @@ module _ (c : Columns) (k : ℕ) (t : Term) (there : Defined c k t) (j : ℕ)
   path_past most =
       rw owner (descended_past _ there.payloads _ t _ j most there.held there.fits past)
 
-  pub own_past : answer c (Own j) ≡ Nowhere
+  pub own_past : answer c (Own j) ≡ None
   unfolding answer told literal_path
   own_past = rw (path_past 64)
 
-  pub event_past : answer c (Event j) ≡ Nowhere
+  pub event_past : answer c (Event j) ≡ None
   unfolding answer told literal_path event_of with_event
   event_past = rw (path_past 63) (go (eqb (look 1024 c.kinds j) Kind.prefix))
     where
-      go : (b : Bool) → told (literal_definition c (Event j)) (choose b none none) ≡ Nowhere
+      go : (b : Bool) → told (literal_definition c (Event j)) (choose b none none) ≡ None
       go true = refl
       go false = refl

@@ -1,14 +1,9 @@
 -- A term's numbers side by side: number 0 is the term itself, and any other stands in one of its sides, which
 -- has a digit and a first number. What a side says of numbers, paths and literals is read off the
 -- definitions. Assumes nothing.
-use Prim.Native.Nat.{ℕ, zero, suc, ◌+◌, ◌-◌, ◌≤◌, ◌<◌}
-use mathlib.Core.Path.{◌≡◌, refl}
-use mathlib.Core.Bool.{Bool, true, false}
-use mathlib.Core.List.{List, [], ◌∷◌}
-use mathlib.Core.Option.{some}
-use native.Mathlib.Omega.{arith}
-use lib.Dec.{ltb}
-use borrow.Author.Tests.{ltb-true, ltb-false, lt-ltb, le-ltb}
+use Rattle.std.proofs.Common.{◌≡◌, ℕ, zero, suc, ◌+◌, ◌-◌, ◌<◌, ◌≤◌, Bool, true, false, ltb, List, [], ◌∷◌}
+use Rattle.std.proofs.Common.{refl, arith, ltb-false, ltb-true, le-ltb, lt-ltb}
+use Rattle.std.proofs.Math.Option.{some}
 use Rattle.lines.specs.Line.{choose}
 use Rattle.terms.specs.Term.{Operator, Term, leaf, prefix, binary, size, Shallow}
 use Rattle.places.specs.Place.{path_in, term_at, IsPrefix, PrefixAt, own, shifted, literal_at}

@@ -1,22 +1,17 @@
 -- Following terms downward, a step at a time: what a column has at a number, which subterm comes next, and
 -- what each end of the way says of the path and of the digits written. Assumes nothing.
-use Prim.Native.Nat.{ℕ, zero, suc, ◌+◌, ◌-◌, ◌≤◌, ◌<◌}
-use mathlib.Core.Path.{◌≡◌, refl, sym, ap, ◌∙◌}
-use mathlib.Core.Bool.{Bool, true, false}
-use mathlib.Core.List.{List, [], ◌∷◌, ◌++◌, append-nil, append_assoc}
-use mathlib.Core.Option.{Option, none, some}
-use native.Mathlib.Omega.{arith}
-use native.Mathlib.Nat.{sub-zero}
-use lib.ListN.{length, set, length-append}
-use lib.Seq.{sets}
-use lib.Dec.{ltb}
-use borrow.Author.Tests.{ltb-true, lt-ltb, le-ltb, le-leb, lt-leb, eq-eqb, ne_eqb}
+use Rattle.std.proofs.Common.{◌≡◌, ℕ, zero, suc, ◌+◌, ◌-◌, ◌<◌, ◌≤◌, Bool, true, false, ltb, List, [], ◌∷◌}
+use Rattle.std.proofs.Common.{◌++◌, length, set, Some, None, sym, refl, ap, ◌∙◌, append_assoc, append-nil}
+use Rattle.std.proofs.Common.{arith, length-append, ltb-true, le-ltb, lt-ltb, eq-eqb, ne_eqb, le-leb}
+use Rattle.std.proofs.Math.Nat.{sub-zero}
+use Rattle.std.proofs.Math.Option.{Option, none, some}
+use Rattle.std.proofs.lemmas.Bool.{lt-leb}
+use Rattle.std.proofs.lemmas.List.Edits.{sets}
+use Rattle.std.specs.Prelude as std
 use Rattle.kinds.specs.Kind.{subterms}
 use Rattle.tables.proofs.Kept.{sets_snoc}
 use Rattle.columns.specs.words.Columns.{look}
 use Rattle.places.specs.code.Descent.{next, digit, below, descended, reached, digits}
-use Rattle.places.specs.declared.Reached.{Reached}
-use Rattle.places.specs.declared.Reached.TheVariants.{Ends, Astray}
 
 -- a term with subterms is one of the column's
 pub inside : (ks : List ℕ) (i : ℕ) → (subterms (look 1024 ks i) ≡ 0 → ⊥) → i < 1024
@@ -73,7 +68,7 @@ module _ (f : ℕ) (ks xs : List ℕ) (i j : ℕ) where
           (simp (ne_eqb i j away, ne_eqb (subterms (look 1024 ks i)) 0 (λ z. some_of (count ∙ z))))
 
 -- where the way ends, and what is written
-abbrev pub Leaves : List ℕ → Option (List ℕ) → Reached → List ℕ → Type 0
+abbrev pub Leaves : List ℕ → Option (List ℕ) → std.Option ℕ → List ℕ → Type 0
 Leaves p o r q = (r ≡ reached 0 o) × (q ≡ sets p 0 (digits o))
 
 -- digits, and the path from there on, where there is one
@@ -112,22 +107,22 @@ module _ (f : ℕ) (ks xs : List ℕ) (i j : ℕ) (p : List ℕ) where
   }
 
   module _ (q way : List ℕ) (here depth : ℕ) (h : Halfway q way here depth) where
-    pub way_done : here ≡ j → Leaves p (descended f ks xs i j) (Ends depth) way
+    pub way_done : here ≡ j → Leaves p (descended f ks xs i j) (Some depth) way
     unfolding onward reached digits
     way_done e =
         let all : descended f ks xs i j ≡ some h.gone =
         h.rest ∙ rw (descended_here (f - depth) ks xs here j e, append-nil h.gone) in
-        rw all (ap Ends (omega (arith, h.counted)), h.copied)
+        rw all (ap Some (omega (arith, h.counted)), h.copied)
 
-    astray : descended (f - depth) ks xs here j ≡ none → Leaves p (descended f ks xs i j) Astray q
+    astray : descended (f - depth) ks xs here j ≡ none → Leaves p (descended f ks xs i j) None q
     unfolding onward reached digits
     astray e = rw (h.rest, e) (refl, h.untouched)
 
     module _ (away : here ≡ j → ⊥) where
-      pub way_short : f ≤ depth → Leaves p (descended f ks xs i j) Astray q
+      pub way_short : f ≤ depth → Leaves p (descended f ks xs i j) None q
       way_short l = astray (descended_short (f - depth) ks xs here j away (omega arith))
 
-      pub way_leaf : subterms (look 1024 ks here) ≡ 0 → Leaves p (descended f ks xs i j) Astray q
+      pub way_leaf : subterms (look 1024 ks here) ≡ 0 → Leaves p (descended f ks xs i j) None q
       way_leaf e = astray (descended_leaf (f - depth) ks xs here j away e)
 
       pub way_on : (n x m : ℕ) → depth < f → n ≡ subterms (look 1024 ks here) → (n ≡ 0 → ⊥)

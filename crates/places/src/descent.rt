@@ -5,7 +5,7 @@ ghost use Rattle.places.specs.code.Descent as code;
 ghost use Rattle.places.specs.code.Descent.{descended, reached, digits};
 ghost use Rattle.frames.specs.TableFrame.{path_room, term_room};
 
-use crate::{Path, Reached, StepDown};
+use crate::Path;
 use columns::{After, Kinds, after_of, kind_of};
 use kinds::subterms;
 
@@ -18,7 +18,7 @@ pub fn descend(
     kinds: &Kinds,
     after: &After,
     path: &mut Path,
-) -> Reached
+) -> Option<usize>
     requires { most ≤ path_room }
     ensures value { result ≡ reached 0
         (descended most kinds.now after.now from to) }
@@ -28,23 +28,26 @@ pub fn descend(
     let mut way = *path;
     let mut here = from;
     let mut depth = 0;
-    loop {
-        if here == to {
-            *path = way;
-            return Reached::Ends(depth);
-        }
-        if most <= depth {
-            return Reached::Astray;
-        }
+    // A `for` over the depths would have to ask once more behind it whether the way has ended.
+    while here != to {
         let count = subterms(kind_of(here, kinds));
-        if count == 0 {
-            return Reached::Astray;
+        if most <= depth || count == 0 {
+            return None;
         }
         let step = step_to(here, to, count, after);
         way[depth] = step.digit;
         here = step.next;
         depth += 1;
     }
+    *path = way;
+    Some(depth)
+}
+
+// A step downward: the subterm, and its digit.
+#[derive(Clone, Copy)]
+struct StepDown {
+    next: usize,
+    digit: u8,
 }
 
 // The subterm of a term that `to` stands in, where the term has so many.

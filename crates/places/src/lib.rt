@@ -6,7 +6,6 @@ mod descent;
 
 ghost use Rattle.std.specs.Prelude.{◌≡◌, ◌≤◌};
 ghost use Rattle.std.proofs.lemmas.List.Edits.{sets};
-ghost use Rattle.places.specs.code.Descent as code;
 ghost use Rattle.places.specs.code.Descent.{answer, digits, literal_path, reached, path_of, event_of};
 ghost use Rattle.columns.specs.words.Columns.{columns};
 ghost use Rattle.frames.specs.TableFrame.{path_room};
@@ -15,44 +14,29 @@ use columns::{After, Kinds, Owners, Roots, kind_of, owner_of, root_of};
 use descent::descend;
 use frames::PATH_ROOM;
 use kinds::PREFIX;
-use numbers::wide;
 
 // The path of a literal, in front of what stood there.
+// An array of its room, with no heap: how many digits count is answered beside it.
 pub type Path = [u8; PATH_ROOM];
 
 // A literal: the left-hand side of a definition; the own literal of a term, by its number, which for a prefix
 // is the arrow; or the event of a prefix.
-#[derive(Clone, Copy)]
+#[derive(Clone, Copy, PartialEq, Eq)]
 pub enum Literal {
     Left(u8),
     Own(usize),
     Event(usize),
 }
 
-// The place of a literal, whose path stands in front of the lent array; `Nowhere` where the
-// columns hold no such literal.
-#[derive(Clone, Copy)]
-pub enum Placed {
-    At { definition: u8, length: usize },
-    Nowhere,
+// Where a literal stands: its definition, and how many digits its path has, which stands in front of the lent array.
+#[derive(Clone, Copy, PartialEq, Eq)]
+pub struct Placed {
+    pub definition: u8,
+    pub length: usize,
 }
 
-// Where a path ends: after so many digits; or it leads nowhere.
-#[derive(Clone, Copy)]
-pub enum Reached {
-    Ends(usize),
-    Astray,
-}
-
-// A step downward: the subterm, and its digit.
-#[derive(Clone, Copy)]
-pub struct StepDown {
-    pub next: usize,
-    pub digit: u8,
-}
-
-// The place of a literal by the columns of a table. Its path's digits go to the front of `path`; `Nowhere`
-// leaves it as it was.
+// The place of a literal by the columns of a table, whose path's digits go to the front of `path`; none, with `path` as it was,
+// where the columns hold no such literal.
 pub fn place(
     literal: Literal,
     kinds: &Kinds,
@@ -60,7 +44,7 @@ pub fn place(
     after: &After,
     roots: &Roots,
     path: &mut Path,
-) -> Placed
+) -> Option<Placed>
     ensures value { result ≡ answer
         (columns kinds.now owners.now after.now roots.now)
         literal }
@@ -68,36 +52,21 @@ pub fn place(
         (columns kinds.now owners.now after.now roots.now)
         literal)) }
 {
-    match literal {
+    let (definition, length) = match literal {
         Literal::Left(definition) => {
             path[0] = 0;
-            Placed::At {
-                definition,
-                length: 1,
-            }
+            (definition, 1)
         }
         Literal::Own(n) => {
-            let definition = owner_of(n, owners);
-            answer_of(
-                definition,
-                path_to(n, 64, kinds, owners, after, roots, path),
-            )
+            let length = path_to(n, PATH_ROOM, kinds, owners, after, roots, path)?;
+            (owner_of(n, owners), length)
         }
         Literal::Event(n) => {
-            let definition = owner_of(n, owners);
-            answer_of(definition, event_to(n, kinds, owners, after, roots, path))
+            let length = event_to(n, kinds, owners, after, roots, path)?;
+            (owner_of(n, owners), length)
         }
-    }
-}
-
-// The answer by where the path ended.
-fn answer_of(definition: u8, reached: Reached) -> Placed
-    ensures { result ≡ code.placed definition reached }
-{
-    match reached {
-        Reached::Ends(length) => Placed::At { definition, length },
-        Reached::Astray => Placed::Nowhere,
-    }
+    };
+    Some(Placed { definition, length })
 }
 
 // Writes the path of a term's own literal, of at most so many digits.
@@ -109,7 +78,7 @@ fn path_to(
     after: &After,
     roots: &Roots,
     path: &mut Path,
-) -> Reached
+) -> Option<usize>
     requires { most ≤ path_room }
     ensures value { result ≡ reached 0 (path_of most
         (columns kinds.now owners.now after.now roots.now)
@@ -119,7 +88,7 @@ fn path_to(
         n)) }
 {
     let definition = owner_of(n, owners);
-    let root = root_of(wide(definition), roots);
+    let root = root_of(usize::from(definition), roots);
     descend(root, n, most, kinds, after, path)
 }
 
@@ -131,7 +100,7 @@ fn event_to(
     after: &After,
     roots: &Roots,
     path: &mut Path,
-) -> Reached
+) -> Option<usize>
     ensures value { result ≡ reached 0 (event_of
         (columns kinds.now owners.now after.now roots.now)
         n) }
@@ -141,12 +110,9 @@ fn event_to(
 {
     let kind = kind_of(n, kinds);
     if kind != PREFIX {
-        return Reached::Astray;
+        return None;
     }
-    let reached = path_to(n, 63, kinds, owners, after, roots, path);
-    let Reached::Ends(length) = reached else {
-        return reached;
-    };
+    let length = path_to(n, PATH_ROOM - 1, kinds, owners, after, roots, path)?;
     path[length] = 1;
-    Reached::Ends(length + 1)
+    Some(length + 1)
 }

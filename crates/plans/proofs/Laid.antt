@@ -1,12 +1,7 @@
 -- What the functions of `plans::laying` leave, by how they return: a word put or passed over, a term's own
 -- words, what its subterms are told, its turn, and the turns of all terms. Assumes nothing.
-use Prim.Native.Nat.{ℕ, suc, ◌+◌, ◌*◌, ◌%◌, min, ◌≤◌, ◌<◌}
-use mathlib.Core.Path.{◌≡◌, ap, ◌∙◌}
-use mathlib.Core.List.{List}
-use native.Mathlib.Omega.{arith}
-use native.Mathlib.Numerals.{add-one}
-use lib.ListN.{get_or, set}
-use borrow.Author.Tests.{lt-ltb, le-ltb, eq-eqb, ne_eqb}
+use Rattle.std.proofs.Common.{ℕ, suc, ◌+◌, ◌*◌, ◌%◌, min, ◌≤◌, ◌<◌, ◌≡◌, ap, ◌∙◌, List, arith, add-one}
+use Rattle.std.proofs.Common.{get_or, set, lt-ltb, le-ltb, eq-eqb, ne_eqb}
 use Rattle.frames.specs.TableFrame.{term_room, definition_room}
 use Rattle.kinds.specs.Kind as Kind
 use Rattle.kinds.specs.Kind.{subterms}
@@ -36,10 +31,6 @@ module _ (k p : ℕ) (rs : List ℕ) where
   unfolding operand_of
   operand_call e = rw e
 
-  pub operand_none : (k ≡ Kind.prefix → ⊥) → (k ≡ Kind.call → ⊥) → 0 ≡ operand_of k p rs
-  unfolding operand_of
-  operand_none h g = simp (ne_eqb k Kind.prefix h, ne_eqb k Kind.call g)
-
 -- the second subterm, where there are n
 module _ (k i : ℕ) (xs : List ℕ) (n : ℕ) (count : n ≡ subterms k) where
   pub second_two : n ≡ 2 → look term_room xs (i + 1) ≡ second_of k i xs
@@ -52,18 +43,6 @@ module _ (k i : ℕ) (xs : List ℕ) (n : ℕ) (count : n ≡ subterms k) where
 
 -- the sequence around the subterms
 module _ (k o : ℕ) where
-  pub through_external : k ≡ Kind.external → 0 ≡ through k o
-  unfolding through
-  through_external e = rw e
-
-  pub through_parallel : k ≡ Kind.parallel → 0 ≡ through k o
-  unfolding through
-  through_parallel e = rw e
-
-  pub through_others : (k ≡ Kind.external → ⊥) → (k ≡ Kind.parallel → ⊥) → o ≡ through k o
-  unfolding through
-  through_others h g = simp (ne_eqb k Kind.external h, ne_eqb k Kind.parallel g)
-
   pub inward_sequence : (i : ℕ) → k ≡ Kind.sequence → i + 1 ≡ inward k i o
   unfolding inward
   inward_sequence i e = rw (e, add-one i)

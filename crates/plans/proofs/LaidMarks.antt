@@ -1,15 +1,10 @@
 -- What a place of a layout tells. Each of a checked table's numbers belongs to one definition's tree and stands
 -- at its own path there. A number behind the last has owner 0, and no path leads out of definition 00: it stands
 -- nowhere, as does the event of what is no prefix. Assumes nothing.
-use Prim.Native.Nat.{ℕ, suc, ◌+◌, ◌-◌, ◌≤◌, ◌<◌}
-use mathlib.Core.Path.{◌≡◌, refl, sym, ap, ◌∙◌}
-use mathlib.Core.Bool.{Bool, true, false}
-use mathlib.Core.List.{List, [], ◌∷◌, map}
+use Rattle.std.proofs.Common.{ℕ, suc, ◌+◌, ◌-◌, ◌≤◌, ◌<◌, ◌≡◌, refl, sym, ap, ◌∙◌, Bool, true, false, List}
+use Rattle.std.proofs.Common.{[], ◌∷◌, map, arith, length, get_or, ltb, ltb-true, ltb-false}
 use mathlib.Core.Option.{Option, none, some}
-use native.Mathlib.Omega.{arith}
-use lib.ListN.{length, get_or, get_elem?, length-map, get_or-eq_default}
-use lib.Dec.{ltb}
-use borrow.Author.Tests.{ltb-true, ltb-false}
+use lib.ListN.{get_elem?, length-map, get_or-eq_default}
 use Rattle.lines.specs.Judging.{accepted}
 use Rattle.frames.specs.TableFrame.{term_room, definition_room}
 use Rattle.tables.specs.Table.{Item, Sofar, judged}
@@ -22,7 +17,7 @@ use Rattle.columns.specs.words.Columns.{Columns, look, columns}
 use Rattle.places.specs.code.Descent.{literal_definition, literal_path, told, answer}
 use Rattle.places.specs.declared.Literal.{Literal}
 use Rattle.places.specs.declared.Literal.TheVariants.{Own, Event}
-use Rattle.places.specs.declared.Placed.TheVariants.{Nowhere}
+use Rattle.std.specs.Prelude.{None}
 use Rattle.columns.proofs.Laws.{look_in, look_out}
 use Rattle.places.proofs.Laws.{checked_roots, event_nowhere, own_past, event_past}
 use Rattle.plans.specs.words.Layout.{found, place_of, layout}
@@ -75,11 +70,11 @@ listed (u ∷ ts) root d i t begins from to =
         }
 
 -- what is answered nowhere stands in no definition
-nowhere_found : (c : Columns) (a : Literal) → answer c a ≡ Nowhere → (place_of c a).definition ≡ definition_room
+nowhere_found : (c : Columns) (a : Literal) → answer c a ≡ None → (place_of c a).definition ≡ definition_room
 unfolding answer told place_of found
 nowhere_found c a e = go (literal_path c a) e
   where
-    go : (o : Option (List ℕ)) → told (literal_definition c a) o ≡ Nowhere
+    go : (o : Option (List ℕ)) → told (literal_definition c a) o ≡ None
         → (found (literal_definition c a) o).definition ≡ definition_room
     go none e = refl
     go (some w) e = let z : ◌≡◌ {A = ℕ} 0 1 = cc in absurd (omega arith)
@@ -115,11 +110,11 @@ module _ (text : List ℕ) (s : Sofar) (q : judged text ≡ accepted s) (t : ℕ
       (omega (arith, ap length (checked_trees text s q).all))
 
   -- a literal of a number behind the terms is answered nowhere
-  past_nowhere : length s.terms ≤ t → (answer c (Own t) ≡ Nowhere) × (answer c (Event t) ≡ Nowhere)
+  past_nowhere : length s.terms ≤ t → (answer c (Own t) ≡ None) × (answer c (Event t) ≡ None)
   past_nowhere past = go (definitions_of s) refl
     where
       go : (ts : List Term) → definitions_of s ≡ ts
-          → (answer c (Own t) ≡ Nowhere) × (answer c (Event t) ≡ Nowhere)
+          → (answer c (Own t) ≡ None) × (answer c (Event t) ≡ None)
       go [] e =
           let table = checked_trees text s q in
           absurd (omega (arith, ap length e, table.many, table.some_definitions))
@@ -132,7 +127,7 @@ module _ (text : List ℕ) (s : Sofar) (q : judged text ≡ accepted s) (t : ℕ
           (own_past c 0 u there t owner (omega arith), event_past c 0 u there t owner (omega arith))
 
   -- a number one of whose literals is answered is one of the table's
-  belongs_by : (a : Literal) → (length s.terms ≤ t → answer c a ≡ Nowhere)
+  belongs_by : (a : Literal) → (length s.terms ≤ t → answer c a ≡ None)
       → ((place_of c a).definition ≡ definition_room → ⊥) → InTable s t
   belongs_by a past away = go (ltb t (length s.terms)) refl
     where

@@ -1,12 +1,9 @@
 -- Where a tree's terms stand: all below one place by the tree's own paths, so that each subterm stands one
 -- digit below its term, and each event below its prefix. In the layout of a checked table every definition
 -- stands so. Assumes nothing.
-use Prim.Native.Nat.{ℕ, ◌+◌, ◌<◌}
-use mathlib.Core.Path.{◌≡◌, sym, ap, ◌∙◌}
-use mathlib.Core.List.{List, [], ◌∷◌, ◌++◌, append-nil, append_assoc}
+use Rattle.std.proofs.Common.{ℕ, ◌+◌, ◌<◌, ◌≡◌, sym, ap, ◌∙◌, List, [], ◌∷◌, ◌++◌, append-nil, append_assoc}
+use Rattle.std.proofs.Common.{arith, add-zero, add_assoc}
 use mathlib.Core.Option.{some}
-use native.Mathlib.Omega.{arith}
-use native.Mathlib.Nat.{add-zero, add_assoc}
 use lib.ListN.{get_elem?}
 use Rattle.lines.specs.Judging.{accepted}
 use Rattle.frames.specs.TableFrame.{definition_room}
@@ -16,10 +13,11 @@ use Rattle.terms.specs.Term.{Term, prefix, size, definitions_of}
 use Rattle.terms.proofs.Held.{size_some}
 use Rattle.places.specs.Place.{Place, path_in, term_at, PrefixAt, event_path}
 use Rattle.columns.specs.words.Columns.{Columns, look}
-use Rattle.places.specs.code.Descent.{literal_definition, told, answer}
+use Rattle.places.specs.code.Descent.{told, answer}
 use Rattle.places.specs.declared.Literal.{Literal}
 use Rattle.places.specs.declared.Literal.TheVariants.{Own, Event}
 use Rattle.places.proofs.Sides.{Side, side_inside, side_at, path_root, prefix_inside}
+use Rattle.places.proofs.Literals.{at_definition}
 use Rattle.places.proofs.Laws.{Answers, own_answered, event_answered, checked_roots}
 use Rattle.rules.specs.Process.{below}
 use Rattle.plans.specs.words.Plan.{Layout}
@@ -66,8 +64,7 @@ answered_place : (c : Columns) (a : Literal) (k : ℕ) (w : List ℕ) → Answer
     → place_of c a ≡ record { definition = k; path = w }
 unfolding place_of found answer told
 answered_place c a k w h =
-    let at_k = rw h.1 at h.0 in
-    let own : literal_definition c a ≡ k = cc in
+    let own = at_definition _ _ _ _ (rw h.1 at h.0) in
     rw (own, h.1)
 
 module _ (text : List ℕ) (s : Sofar) (q : judged text ≡ accepted s) (k : ℕ) (t : Term)

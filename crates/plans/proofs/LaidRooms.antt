@@ -2,14 +2,10 @@
 -- turn, so no path is longer than its room. A turn puts around a subterm 0, what stood around its term, or one
 -- more than its own number, so no such word is over the terms' room; and the first definition's root is term 0.
 -- Assumes nothing.
-use Prim.Native.Nat.{ℕ, zero, suc, ◌+◌, ◌*◌, ◌≤◌, ◌<◌}
-use mathlib.Core.Path.{◌≡◌, refl}
-use mathlib.Core.Bool.{Bool, true, false, ◌||◌}
-use mathlib.Core.List.{List, [], ◌∷◌}
+use Rattle.std.proofs.Common.{ℕ, zero, suc, ◌+◌, ◌*◌, ◌≤◌, ◌<◌, ◌≡◌, refl, Bool, true, false, ◌||◌, List}
+use Rattle.std.proofs.Common.{[], ◌∷◌, arith, length, get_or, set, replicate, length-append, ltb, eqb}
 use mathlib.Core.Option.{Option, none, some}
-use native.Mathlib.Omega.{arith}
-use lib.ListN.{length, get_or, get_elem?, set, replicate, length-append}
-use lib.Dec.{ltb, eqb}
+use lib.ListN.{get_elem?}
 use Rattle.lines.specs.Line.{choose}
 use Rattle.lines.proofs.Choosing.{choose_most}
 use Rattle.lines.specs.Judging.{accepted}

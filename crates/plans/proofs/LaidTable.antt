@@ -1,12 +1,10 @@
 -- The plan that is laid out from a checked table's columns holds the table's definitions. The columns hold
 -- them one behind the other, so the turns of all terms plan each of them, at the places that its paths tell.
 -- Assumes nothing.
-use Prim.Native.Nat.{ℕ, zero, suc, ◌+◌, ◌<◌}
-use mathlib.Core.Path.{◌≡◌, refl, sym, ap, ◌∙◌}
-use mathlib.Core.List.{List, [], ◌∷◌}
+use Rattle.std.proofs.Common.{ℕ, zero, suc, ◌+◌, ◌<◌, ◌≡◌, refl, sym, ap, ◌∙◌, List, [], ◌∷◌, arith, length}
+use Rattle.std.proofs.Common.{get_or}
 use mathlib.Core.Option.{some}
-use native.Mathlib.Omega.{arith}
-use lib.ListN.{length, get_or, get_elem?, get_or-replicate, get_or-append}
+use lib.ListN.{get_elem?, get_or-replicate, get_or-append}
 use Rattle.lines.specs.Judging.{accepted}
 use Rattle.frames.specs.TableFrame.{definition_room}
 use Rattle.tables.specs.Table.{Sofar, judged}

@@ -1,13 +1,10 @@
 -- The turns of trees. Those of a tree put only words of the tree's own numbers, and not the word `around` of
 -- its root, which the turn of the term above has put before. So a word stays once it is put, and by induction
 -- over a tree's terms the words are those that a plan of the tree wants. Assumes nothing.
-use Prim.Native.Nat.{ℕ, zero, suc, ◌+◌, ◌*◌, ◌%◌, ◌≤◌, ◌<◌}
-use mathlib.Core.Path.{◌≡◌, refl, sym, ap, ◌∙◌}
-use mathlib.Core.List.{List, [], ◌∷◌, ◌++◌}
+use Rattle.std.proofs.Common.{ℕ, zero, suc, ◌+◌, ◌*◌, ◌%◌, ◌≤◌, ◌<◌, ◌≡◌, refl, sym, ap, ◌∙◌, List, [], ◌∷◌}
+use Rattle.std.proofs.Common.{◌++◌, arith, add-one, get_or}
 use mathlib.Core.Option.{some}
-use native.Mathlib.Omega.{arith}
-use native.Mathlib.Numerals.{add-one}
-use lib.ListN.{get_or, get_elem?}
+use lib.ListN.{get_elem?}
 use Rattle.frames.specs.TableFrame.{term_room, definition_room, event_room}
 use Rattle.kinds.specs.Kind as Kind
 use Rattle.kinds.specs.Kind.{subterms}

@@ -1,9 +1,5 @@
 -- What a term's word is where there is such a term and where there is none. Assumes nothing.
-use Prim.Native.Nat.{ℕ, ◌+◌, ◌*◌, ◌≤◌, ◌<◌}
-use mathlib.Core.Path.{◌≡◌}
-use mathlib.Core.List.{List}
-use lib.ListN.{get_or}
-use borrow.Author.Tests.{lt-ltb, le-ltb}
+use Rattle.std.proofs.Common.{ℕ, ◌+◌, ◌*◌, ◌≤◌, ◌<◌, ◌≡◌, List, get_or, lt-ltb, le-ltb}
 use Rattle.frames.specs.TableFrame.{term_room}
 use Rattle.plans.specs.words.Plan.{word}
 

@@ -33,16 +33,11 @@ pub fn lay_out(
         roots.now }
 {
     *plan = [0u16; PLAN_WORDS];
-    let mut t: usize = 0;
-    while t < terms {
-        if TERM_ROOM <= t {
-            return;
-        }
+    for t in 0..terms.min(TERM_ROOM) {
         let kind = kinds[t];
         let operand = operand_to(kind, payloads[t], roots);
         let second = second_to(kind, t, after);
         lay_term(t, kind, operand, second, plan);
-        t += 1;
     }
 }
 
@@ -63,14 +58,14 @@ fn lay_term(t: usize, kind: u8, operand: u16, second: u16, plan: &mut Plan)
     if count == 1 {
         return;
     }
-    put(second as usize, AROUND, passed, plan);
+    put(usize::from(second), AROUND, passed, plan);
 }
 
 // Puts a term's own words.
 fn put_own(t: usize, kind: u8, operand: u16, second: u16, plan: &mut Plan)
     ensures { plan.new ≡ of.own_words kind operand second t plan.old }
 {
-    put(t, KIND, kind as u16, plan);
+    put(t, KIND, u16::from(kind), plan);
     put(t, OPERAND, operand, plan);
     put(t, SECOND, second, plan);
 }
@@ -79,13 +74,12 @@ fn put_own(t: usize, kind: u8, operand: u16, second: u16, plan: &mut Plan)
 fn operand_to(kind: u8, payload: u64, roots: &Roots) -> u16
     ensures { result ≡ of.operand_of kind payload roots.now }
 {
-    if kind == PREFIX {
-        return (payload % 65536) as u16;
+    match kind {
+        PREFIX => (payload % 65536) as u16,
+        // No `From` makes a u64 a usize.
+        CALL => root_word(payload as usize, roots),
+        _ => 0,
     }
-    if kind == CALL {
-        return root_word(payload as usize, roots);
-    }
-    0
 }
 
 // The second subterm of term t, the term behind its first; 0 where it has no two.
@@ -94,9 +88,10 @@ fn second_to(kind: u8, t: usize, after: &After) -> u16
     ensures { result ≡ of.second_of kind t after.now }
 {
     if subterms(kind) == 2 {
-        return after_word(t + 1, after);
+        after_word(t + 1, after)
+    } else {
+        0
     }
-    0
 }
 
 // What the first subterm of term t is told: of term t itself, where that is a sequence.
@@ -105,25 +100,23 @@ fn inward(kind: u8, t: usize, around: u16) -> u16
     ensures { result ≡ of.inward kind t around }
 {
     if kind == SEQUENCE {
-        return (t + 1) as u16;
+        (t + 1) as u16
+    } else {
+        through(kind, around)
     }
-    through(kind, around)
 }
 
 // What a subterm is told of the sequence around its term: nothing through an external choice or a parallel.
 fn through(kind: u8, around: u16) -> u16
     ensures { result ≡ of.through kind around }
 {
-    if kind == EXTERNAL {
-        return 0;
+    match kind {
+        PARALLEL | EXTERNAL => 0,
+        _ => around,
     }
-    if kind == PARALLEL {
-        return 0;
-    }
-    around
 }
 
-// Puts word k of a term.
+// Puts word k of a term. The test stands first: `4 * t` could overflow before a `get_mut`, behind which a proof knows no word.
 fn put(t: usize, k: usize, value: u16, plan: &mut Plan)
     requires { k < 4 }
     ensures { plan.new ≡ of.put k t value plan.old }

@@ -8,7 +8,6 @@ mod laying;
 ghost use Rattle.std.specs.Prelude.{◌≡◌, ◌<◌};
 ghost use Rattle.plans.specs.words.Plan as of;
 
-use columns::wide;
 use frames::TERM_ROOM;
 use kinds::{CALL, EXTERNAL, INTERNAL, PARALLEL, PREFIX, SEQUENCE, SKIP, STOP};
 pub use laying::lay_out;
@@ -16,9 +15,10 @@ pub use laying::lay_out;
 // A plan: four words for each term.
 pub const PLAN_WORDS: usize = 4096;
 
+// An array of its room, with no heap.
 pub type Plan = [u16; PLAN_WORDS];
 
-// The kinds of terms, as a plan's words have them.
+// The kinds of terms, as a plan's words have them. `usize::from` does not stand in a constant.
 pub const CALL_WORD: usize = CALL as usize;
 
 pub const PREFIX_WORD: usize = PREFIX as usize;
@@ -69,8 +69,9 @@ fn word(t: usize, k: usize, plan: &Plan) -> usize
     requires { k < 4 }
     ensures { result ≡ of.word k plan.now t }
 {
+    // Past the last term 4 * t could overflow, so it is tested.
     if t < TERM_ROOM {
-        wide(plan[4 * t + k])
+        usize::from(plan[4 * t + k])
     } else {
         0
     }

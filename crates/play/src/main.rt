@@ -5,18 +5,26 @@
 
 mod telling;
 
-use columns::{After, Kinds, Owners, Payloads, Roots};
+use columns::Payloads;
 use control::{Counters, NODE_WORDS, Nodes, TRACK_WORDS, Track};
-use frames::{DEFINITION_ROOM, TERM_ROOM};
-use inputs::{input_room, table_end};
+use inputs::{input_room, table_and_script};
+use loaded::Table;
 use plans::{PLAN_WORDS, Plan, lay_out};
-use playing::{Played, play};
+use playing::play;
 use runs::start;
 use scripts::{DIGIT_ROOM, SCRIPT_TEXT_ROOM};
 use standard_input::read_full;
 use std::io;
-use tables::{Checked, TableCounts, check};
 use telling::tell_run;
+
+// A run, with the plan of its table.
+#[derive(Drop)]
+struct Run {
+    plan: Plan,
+    nodes: Nodes,
+    track: Track,
+    counters: Counters,
+}
 
 fn main(rt: HostRuntime) -> io::Result<()> {
     let mut buffer = input_room();
@@ -25,87 +33,56 @@ fn main(rt: HostRuntime) -> io::Result<()> {
 }
 
 // Checks the table's text, and plays the script behind it.
-fn play_input(rt: &impl Print, text: &[u8]) -> io::Result<()> {
-    let mut kinds = [0u8; TERM_ROOM];
-    let mut payloads = [0u64; TERM_ROOM];
-    let mut owners = [0u8; TERM_ROOM];
-    let mut after = [0u16; TERM_ROOM];
-    let mut roots = [0u16; DEFINITION_ROOM];
-    let end = table_end(text);
-    let checked = check(
-        &text[..end],
-        &mut kinds,
-        &mut payloads,
-        &mut owners,
-        &mut after,
-        &mut roots,
-    );
-    let Checked::Accepted(counts) = checked else {
-        return Ok(());
-    };
-    play_script(
-        rt,
-        &text[end..],
-        counts,
-        &kinds,
-        &payloads,
-        &owners,
-        &after,
-        &roots,
-    )
+fn play_input(rt: &impl Print, input: &[u8]) -> io::Result<()> {
+    let (text, script) = table_and_script(input);
+    let mut table = Table::new();
+    match table.check(text) {
+        Err(_) => Ok(()),
+        Ok(counts) => play_script(rt, script, counts.terms, &table),
+    }
 }
 
-// Plays a script over a table's columns, and tells what the run has come to.
-fn play_script(
-    rt: &impl Print,
-    script: &[u8],
-    counts: TableCounts,
-    kinds: &Kinds,
-    payloads: &Payloads,
-    owners: &Owners,
-    after: &After,
-    roots: &Roots,
-) -> io::Result<()> {
+// Plays a script over a table of so many terms, and tells what the run has come to.
+fn play_script(rt: &impl Print, script: &[u8], terms: usize, table: &Table) -> io::Result<()> {
     if SCRIPT_TEXT_ROOM < script.len() {
         return Ok(());
     }
-    let mut plan = [0u16; PLAN_WORDS];
-    lay_out(counts.terms, kinds, payloads, after, roots, &mut plan);
-    let mut nodes = [0u16; NODE_WORDS];
-    let mut track = [0u16; TRACK_WORDS];
-    let mut counters = [0u16; 8];
-    start(&mut nodes, &mut track, &mut counters);
-    play_lines(
-        script,
-        &plan,
-        payloads,
-        &mut nodes,
-        &mut track,
-        &mut counters,
+    let mut run = Run {
+        plan: [0; PLAN_WORDS],
+        nodes: [0; NODE_WORDS],
+        track: [0; TRACK_WORDS],
+        counters: [0; 8],
+    };
+    lay_out(
+        terms,
+        &table.kinds,
+        &table.payloads,
+        &table.after,
+        &table.roots,
+        &mut run.plan,
     );
-    tell_run(
-        rt, kinds, owners, after, roots, payloads, &plan, &nodes, &track, &counters,
-    )
+    start(&mut run.nodes, &mut run.track, &mut run.counters);
+    play_lines(script, &table.payloads, &mut run);
+    tell_run(rt, table, &run)
 }
 
 // Plays lines up to the first that is no step; a script has no more lines than bytes.
-fn play_lines(
-    script: &[u8],
-    plan: &Plan,
-    sets: &Payloads,
-    nodes: &mut Nodes,
-    track: &mut Track,
-    counters: &mut Counters,
-) {
+fn play_lines(script: &[u8], sets: &Payloads, run: &mut Run) {
     let mut digits = [0u8; DIGIT_ROOM];
     let mut at = 0;
-    let mut count = 0;
-    while count < SCRIPT_TEXT_ROOM {
-        let played = play(script, at, &mut digits, plan, sets, nodes, track, counters);
-        let Played::Stepped { event: _, next } = played else {
+    for _ in 0..SCRIPT_TEXT_ROOM {
+        let Ok(Some(step)) = play(
+            script,
+            at,
+            &mut digits,
+            &run.plan,
+            sets,
+            &mut run.nodes,
+            &mut run.track,
+            &mut run.counters,
+        ) else {
             return;
         };
-        at = next;
-        count += 1;
+        at = step.next;
     }
 }

@@ -1,16 +1,10 @@
 -- A script's line over the words of a run comes to what document 01 says of it, from the state that the words hold. A line
 -- that asks for a step has no more digits than there is room for; so the digits in the lent array are its address, its
 -- answer is document 01's by the step's, and the words behind it hold the state behind it. Assumes nothing.
-use Prim.Native.Nat.{ℕ, ◌+◌, ◌≤◌}
-use mathlib.Core.Path.{◌≡◌, refl, ap, ◌∙◌}
-use mathlib.Core.Bool.{Bool, true, false}
-use mathlib.Core.List.{List, [], ◌∷◌}
-use mathlib.Core.Option.{Option, none, some}
-use native.Mathlib.Omega.{arith}
-use lib.ListN.{length}
-use lib.Dec.{leb}
-use lib.Seq.{sets}
-use borrow.Author.Tests.{leb-true}
+use Rattle.std.proofs.Common.{ℕ, ◌+◌, ◌≤◌, ◌≡◌, refl, ap, ◌∙◌, Bool, true, false, List, [], ◌∷◌, arith, length, leb}
+use Rattle.std.proofs.Common.{leb-true}
+use Rattle.std.proofs.Math.Option.{Option, none, some}
+use Rattle.std.proofs.lemmas.List.Edits.{sets}
 use Rattle.lines.specs.Line.{choose, Raw, characters}
 use Rattle.lines.proofs.Digits.{both}
 use Rattle.desk_lines.specs.DeskLine.{desk_frame}
@@ -26,7 +20,7 @@ use Rattle.runs.proofs.Spelled.{digits_addressed}
 use Rattle.playing.specs.LineAnswer.{line_answer}
 use Rattle.playing.specs.words.Account.{line_told, first_told, first_behind, Plays}
 use Rattle.playing.specs.code.Playing.{LinePlayed, with_played, of_answer, step_played, by_line, played}
-use Rattle.playing.specs.declared.Played.{Played}
+use Rattle.playing.specs.Played.{Played}
 
 -- what a line may ask for: no more digits than there is room for, or a refusal with a number
 abbrev pub Sound : Asked → Type 0

@@ -1,29 +1,42 @@
 -- What a script's line comes to, with the words after it, by what its tests found: each law takes what the calls on
 -- the way promise. What that says of a run is `plays`. Assumes nothing.
-use Prim.Native.Nat.{ℕ}
-use mathlib.Core.Path.{◌≡◌, refl}
-use mathlib.Core.List.{List}
-use lib.Seq.{sets}
+use Rattle.std.proofs.Common.{ℕ, ◌≡◌, refl, sym, ap, List, Option, Some, None, Result, Ok, Err}
+use Rattle.std.proofs.lemmas.List.Edits.{sets}
 use Rattle.lines.specs.Line.{Raw}
+use Rattle.lines.specs.declared.Refusal.{Refusal}
+use Rattle.lines.proofs.Refusals.{number_once}
 use Rattle.scripts.specs.Script as Script
-use Rattle.scripts.specs.declared.ScriptStep.{ScriptStep}
-use Rattle.scripts.specs.declared.ScriptStep.TheVariants as Lines
+use Rattle.scripts.specs.ScriptStep.{ScriptStep}
+use Rattle.scripts.specs.ScriptStep as Lines
 use Rattle.runs.specs.code.Doors.{stepped}
 use Rattle.runs.specs.words.Held.{lent}
 use Rattle.playing.specs.words.Account.{Plays}
-use Rattle.playing.specs.code.Playing.{LinePlayed, with_played, of_answer, without_step, unplayed, step_played}
+use Rattle.playing.specs.code.Playing.{LinePlayed, with_played, of_answer, step_played}
 use Rattle.playing.specs.code.Playing.{by_line, played}
-use Rattle.runs.specs.declared.Answer.{Answer}
-use Rattle.runs.specs.declared.Answer.TheVariants.{Accepted, Refused}
-use Rattle.runs.specs.declared.Shown.{Shown}
-use Rattle.playing.specs.declared.Played.{Played}
-use Rattle.playing.specs.declared.Played.TheVariants as Comes
+use Rattle.runs.specs.Answer.{Answer, Accepted, Refused, Shown}
+use Rattle.playing.specs.declared.PlayedStep.{PlayedStep}
+use Rattle.playing.specs.Played.{Played, played_told}
+use Rattle.playing.specs.Played as Comes
 use Rattle.runs.proofs.Laws.{Steps}
 use Rattle.playing.proofs.Account.{plays}
 
--- a line of a script that asks for no step
-abbrev pub Other : ScriptStep → Type 0
-Other s = (n next : ℕ) → s ≡ Lines.Address n next → ⊥
+-- what a line comes to, where it is no refusal
+told_back : Played → Result (Option PlayedStep) Refusal
+told_back (Comes.Stepped e next) = Ok (Some (record { event = e; next = next }))
+told_back (Comes.Refused n) = Ok None
+told_back Comes.End = Ok None
+
+pub played_told_once : (x y : Result (Option PlayedStep) Refusal) → played_told x ≡ played_told y → x ≡ y
+unfolding played_told told_back
+played_told_once (Ok (Some a)) (Ok (Some b)) same = ap told_back same
+played_told_once (Ok (Some a)) (Ok None) same = cc
+played_told_once (Ok (Some a)) (Err s) same = cc
+played_told_once (Ok None) (Ok (Some b)) same = cc
+played_told_once (Ok None) (Ok None) same = refl
+played_told_once (Ok None) (Err s) same = cc
+played_told_once (Err r) (Ok (Some b)) same = cc
+played_told_once (Err r) (Ok None) same = cc
+played_told_once (Err r) (Err s) same = ap Err (number_once r s cc)
 
 -- the line of a script that stands from `at` on, with digits es in the lent array then
 module _ (p x w g c : List ℕ) (at : ℕ) (ls : List Raw) (ds es : List ℕ) (line : ScriptStep)
@@ -44,14 +57,14 @@ module _ (p x w g c : List ℕ) (at : ℕ) (ls : List Raw) (ds es : List ℕ) (l
   unfolding played
   line_by s h = rw (← h, reads.0, reads.1)
 
-  without : (s : ScriptStep) → Other s → by_line p x w g c s es ≡ unplayed p x w g c (without_step s)
-  unfolding without_step by_line
-  without (Lines.Address n next) h = absurd (h n next refl)
-  without (Lines.Refused n) h = refl
-  without Lines.End h = refl
+  -- a line that asks for no step
+  pub line_refused : (m : ℕ) → line ≡ Lines.Refused m → Told (Comes.Refused m) w g c
+  unfolding by_line
+  line_refused m is = tells (Comes.Refused m) w g c (sym (line_by (Lines.Refused m) is))
 
-  pub no_step_played : Other line → (r : Played) → r ≡ without_step line → Told r w g c
-  no_step_played h r r_is = tells r w g c (rw (r_is, line_by line refl, without line h))
+  pub script_ends : line ≡ Lines.End → Told Comes.End w g c
+  unfolding by_line
+  script_ends is = tells Comes.End w g c (sym (line_by Lines.End is))
 
   module _ (n next : ℕ) (asks : line ≡ Lines.Address n next) (a : Answer) (v h k : List ℕ)
       (so : Steps a v h k (stepped p x n es w g c)) where
@@ -59,9 +72,9 @@ module _ (p x w g c : List ℕ) (at : ℕ) (ls : List Raw) (ds es : List ℕ) (l
     unfolding by_line step_played
     answered = rw (line_by _ asks, ← so)
 
-    pub refused_played : (m : ℕ) → a ≡ Refused m → Told (Comes.Refused m) v h k
+    pub step_refused : (m : ℕ) → a ≡ Refused m → Told (Comes.Refused m) v h k
     unfolding of_answer
-    refused_played m is = tells (Comes.Refused m) v h k (rw is at answered)
+    step_refused m is = tells (Comes.Refused m) v h k (rw is at answered)
 
     pub shown_played : (s : Shown) → a ≡ Accepted s → Told (Comes.Stepped s.event next) v h k
     unfolding of_answer

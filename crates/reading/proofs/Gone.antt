@@ -1,14 +1,13 @@
 -- All the lines: the parts follow each other, each from where the one before it ends. So what the whole text says is what is
 -- said from there on with what was read, and the columns hold that. Assumes nothing.
-use Prim.Native.Nat.{ℕ, ◌+◌, ◌≤◌}
-use mathlib.Core.Logic.{inl, inr}
-use mathlib.Core.Path.{◌≡◌, refl, sym, ap, ◌∙◌, subst}
-use mathlib.Core.List.{List, [], ◌∷◌, ◌++◌, append_assoc}
-use native.Mathlib.Omega.{arith}
-use lib.ListN.{length, drop, replicate}
-use lib.Seq.{sets}
+use Rattle.std.specs.Prelude.{ℕ, ◌+◌, ◌≤◌, List, [], ◌∷◌, ◌++◌, length, drop, replicate, Result, Ok, Err, IsErrAnd, ◌≡◌, refl}
+use Rattle.std.proofs.Common.{inl, inr, sym, ap, ◌∙◌, subst, append_assoc, arith}
+use Rattle.std.proofs.lemmas.List.Edits.{sets}
 use Rattle.lines.specs.Line.{lines}
 use Rattle.lines.specs.Judging.{Judged, accepted, refused}
+use Rattle.lines.specs.Refusal.{number}
+use Rattle.lines.specs.declared.Refusal.{Refusal}
+use Rattle.lines.specs.declared.RefusedAt.{RefusedAt}
 use Rattle.rules.specs.Track.{Label, Pair}
 use Rattle.rules.specs.Run.{node_room, arc_room, meeting_room}
 use Rattle.control.specs.words.Words.{track_words, meetings_from, reference_room}
@@ -19,19 +18,17 @@ use Rattle.links.specs.words.Columns.{flat}
 use Rattle.finding.specs.code.Found.{marks_of}
 use Rattle.opening.specs.code.Phases.{Told}
 use Rattle.opening.specs.code.Ends.{opened, last_read}
-use Rattle.opening.specs.declared.TrackOpened.{TrackOpened}
-use Rattle.opening.specs.declared.TrackOpened.TheVariants.{Track, Fails}
-use Rattle.opening.specs.declared.Lines.{Lines}
-use Rattle.opening.specs.declared.Lines.TheVariants.{Goes, Stops}
+use Rattle.opening.specs.declared.TrackOpening.{TrackOpening}
+use Rattle.opening.specs.Answers.{Track, Lines, Goes, opened_told, lines_told}
 use Rattle.opening.proofs.Work.{onward, goes_on, stops_there, begun, first_leads, Fits, opened_fits, all_said}
 use Rattle.opening.proofs.Work.{last_leads}
 use Rattle.node_lines.specs.code.Nodes.{nodes_read}
 use Rattle.node_lines.proofs.Laws.{labelled, nodes_lead}
 use Rattle.pair_lines.specs.code.Pairs.{pairs_read}
 use Rattle.pair_lines.proofs.Laws.{due_of, with_pairs, pairs_lead}
-use Rattle.reading.specs.code.Outcome.{Held, failed, stopped}
-use Rattle.reading.specs.declared.Read.{Read}
-use Rattle.reading.specs.declared.Read.TheVariants.{Accepted, Refused}
+use Rattle.reading.specs.code.Outcome.{Held}
+use Rattle.reading.specs.Answers.{Read, Accepted, Refused, read_told}
+use Rattle.links.specs.declared.GraphCounts.{GraphCounts}
 
 -- the counts that line 1 tells: within their rooms, and by them the work goes on
 pub record Counted (text : List ℕ) (n a s next : ℕ) : Type 0 where
@@ -40,17 +37,30 @@ pub record Counted (text : List ℕ) (n a s next : ℕ) : Type 0 where
   pub meetings_fit : s ≤ meeting_room
   pub work : (d : ℕ) → parsed d text ≡ rest d n (dues n a s) nothing 2 (lines (drop next text))
 
-pub counts : (text : List ℕ) {o : TrackOpened} {n a s next : ℕ} → o ≡ opened (lines text) → o ≡ Track n a s next
-    → Counted text n a s next
-unfolding Fits begun
-counts text {n = n} {a} {s} {next} e q =
-    let fits : Fits (Track n a s next) = subst Fits (sym e ∙ q) (opened_fits (lines text)) in
+pub counts : (text : List ℕ) {x : Result TrackOpening Refusal} {o : TrackOpening} → opened_told x ≡ opened (lines text)
+    → x ≡ Ok o → Counted text o.nodes o.arcs o.meetings o.next
+unfolding Fits begun opened_told
+counts text {o = o} e q =
+    let told : opened (lines text) ≡ Track o.nodes o.arcs o.meetings o.next = sym e ∙ ap opened_told q in
+    let fits : Fits (Track o.nodes o.arcs o.meetings o.next) = subst Fits told (opened_fits (lines text)) in
     record {
       nodes_fit = fits.0;
       arcs_fit = fits.1;
       meetings_fit = fits.2;
-      work = λ d. first_leads text d ∙ ap (begun text d) (sym e ∙ q);
+      work = λ d. first_leads text d ∙ ap (begun text d) told;
     }
+
+-- lines that are read go on from where they end
+pub goes : {x : Result ℕ RefusedAt} {next : ℕ} → x ≡ Ok next → lines_told x ≡ Goes next
+unfolding lines_told
+goes e = ap lines_told e
+
+-- a refusal that is handed on
+handed_on : (r : Result GraphCounts RefusedAt) (e : RefusedAt) → IsErrAnd r (λ x. x ≡ e)
+    → read_told r ≡ Refused (number e.refusal) e.line
+unfolding read_told
+handed_on (Ok c) e h = absurd h
+handed_on (Err x) e h = rw h
 
 -- what is due behind the arcs, and behind the nodes
 abbrev behind_arcs : ℕ → List Due
@@ -137,16 +147,20 @@ module _ (text : List ℕ) (d : ℕ) (ks xs rs : List ℕ) where
   unfolding Held
   refused_done ls gs {r = r} p e = subst (λ (q : Judged Graph). Held ks xs rs q r ls gs) (sym p) e
 
-  pub stopped_done : (ls gs : List ℕ) (on : ℕ → Judged Graph) {u t : Lines} → parsed d text ≡ onward on u → t ≡ u
-      → {k l : ℕ} {r : Read} → t ≡ Stops k l → r ≡ stopped t → Done ls gs r
-  unfolding stopped
-  stopped_done ls gs on p told e q = refused_done ls gs (stops_there on p (sym told ∙ e)) (q ∙ ap stopped e)
+  pub stopped_done : (ls gs : List ℕ) (on : ℕ → Judged Graph) {u : Lines} {x : Result ℕ RefusedAt}
+      → parsed d text ≡ onward on u → lines_told x ≡ u → (e : RefusedAt) → x ≡ Err e → (r : Result GraphCounts RefusedAt)
+      → IsErrAnd r (λ y. y ≡ e) → Done ls gs (read_told r)
+  unfolding lines_told
+  stopped_done ls gs on p told e q r h =
+      refused_done ls gs (stops_there on p (sym told ∙ ap lines_told q)) (handed_on r e h)
 
-  pub failed_done : (ls gs : List ℕ) {o : TrackOpened} {k : ℕ} {r : Read} → o ≡ opened (lines text) → o ≡ Fails k
-      → r ≡ failed o → Done ls gs r
-  unfolding begun failed
-  failed_done ls gs b e q =
-      refused_done ls gs (first_leads text d ∙ ap (begun text d) (sym b ∙ e)) (q ∙ ap failed e)
+  pub failed_done : (ls gs : List ℕ) {x : Result TrackOpening Refusal} → opened_told x ≡ opened (lines text)
+      → (e : RefusedAt) → x ≡ Err e.refusal → e.line ≡ 1 → (r : Result GraphCounts RefusedAt)
+      → IsErrAnd r (λ y. y ≡ e) → Done ls gs (read_told r)
+  unfolding begun opened_told
+  failed_done ls gs told e q first r h =
+      refused_done ls gs (first_leads text d ∙ ap (begun text d) (sym told ∙ ap opened_told q) ∙ rw first)
+      (handed_on r e h)
 
   -- all lines: the graph that they say stands in the columns
   pub all_done : {n a s next m m₂ m₃ m₄ : ℕ} (c : Counted text n a s next) {t t₂ t₃ t₄ : Lines}

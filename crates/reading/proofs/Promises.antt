@@ -1,18 +1,18 @@
 -- What reading promises, from what its parts come to. A graph that the lines say stands in the columns, where its pairs are
 -- read back, so that the rules tested on the columns are the rules of the graph; then a column that is handed over where the
 -- text is accepted is as it should be, and for the columns of a checked table all is as the document has it. Assumes nothing.
-use Prim.Native.Nat.{ℕ}
-use mathlib.Core.Path.{◌≡◌, refl, sym, ap, ◌∙◌}
-use mathlib.Core.Bool.{Bool, true, false, not}
-use mathlib.Core.List.{List}
-use native.Mathlib.Omega.{arith}
-use lib.ListN.{length-replicate}
+use Rattle.std.specs.Prelude.{ℕ, Bool, true, false, not, List, Result, Ok, Err, ◌≡◌, refl, is_ok}
+use Rattle.std.proofs.Common.{sym, ap, ◌∙◌, arith}
+use Rattle.std.proofs.lemmas.List.{length-replicate}
 use Rattle.lines.specs.Line.{choose}
 use Rattle.lines.specs.Judging.{Judged, accepted, refused}
 use Rattle.control.specs.words.Words.{track_words}
 use Rattle.terms.specs.Term.{definitions_of}
 use Rattle.graphs.specs.Graph.{Graph}
 use Rattle.graphs.specs.Shape as Shape
+use Rattle.lines.specs.Refusal.{number}
+use Rattle.lines.specs.declared.RefusedAt.{RefusedAt}
+use Rattle.lines.proofs.Refusals.{number_once}
 use Rattle.links.specs.declared.GraphCounts.{GraphCounts}
 use Rattle.links.specs.words.Columns.{counts_of}
 use Rattle.links.proofs.Listed.{arcs_back, meetings_back}
@@ -23,8 +23,7 @@ use Rattle.shapes.proofs.ShapeTested.{shape_told}
 use Rattle.reading.specs.code.Outcome.{track_of, judged, outcome, TrackRead, with_graph, by_outcome, Held}
 use Rattle.reading.specs.code.Outcome.{track_read, handed}
 use Rattle.reading.specs.words.Kept.{Reads}
-use Rattle.reading.specs.declared.Read.{Read}
-use Rattle.reading.specs.declared.Read.TheVariants.{Accepted, Refused}
+use Rattle.reading.specs.Answers.{Read, Accepted, Refused, read_told}
 use Rattle.reading.proofs.RuleLaws.{outcome_told}
 use Rattle.columns.specs.words.Columns.{Columns, read_columns}
 
@@ -74,13 +73,30 @@ module _ (ks ps xs rs : List ℕ) where
   rules_decide (refused n k) ls gs h q t is = let z : ◌≡◌ {A = ℕ} 0 1 = cc in absurd (omega arith)
 
 -- a column is handed over where a text is accepted, and else stays
-pub handed_new : (new old : List ℕ) {r : Read} {c : GraphCounts} → r ≡ Accepted c → handed r new old ≡ new
-unfolding handed
-handed_new new old e = rw e
+pub handed_new : (new old : List ℕ) (x : Result GraphCounts RefusedAt) → is_ok x ≡ true
+    → handed (read_told x) new old ≡ new
+unfolding handed read_told
+handed_new new old (Ok c) e = refl
+handed_new new old (Err r) e = let z : ◌≡◌ {A = ℕ} 0 1 = cc in absurd (omega arith)
 
-pub handed_old : (new old : List ℕ) {r : Read} {n k : ℕ} → r ≡ Refused n k → handed r new old ≡ old
-unfolding handed
-handed_old new old e = rw e
+pub handed_old : (new old : List ℕ) (x : Result GraphCounts RefusedAt) → is_ok x ≡ false
+    → handed (read_told x) new old ≡ old
+unfolding handed read_told
+handed_old new old (Ok c) e = let z : ◌≡◌ {A = ℕ} 0 1 = cc in absurd (omega arith)
+handed_old new old (Err r) e = refl
+
+-- an answer of code tells one outcome
+pub read_told_once : (x y : Result GraphCounts RefusedAt) → read_told x ≡ read_told y → x ≡ y
+unfolding read_told
+read_told_once (Ok b) (Ok c) same = let counts : b ≡ c = cc in ap (λ q. Ok q) counts
+read_told_once (Ok c) (Err e) same = let z : ◌≡◌ {A = ℕ} 0 1 = cc in absurd (omega arith)
+read_told_once (Err e) (Ok c) same = let z : ◌≡◌ {A = ℕ} 0 1 = cc in absurd (omega arith)
+read_told_once (Err e) (Err f) same =
+    let numbers : number e.refusal ≡ number f.refusal = cc in
+    let refusals = number_once e.refusal f.refusal numbers in
+    let line : e.line ≡ f.line = cc in
+    let at : e ≡ f = rw (refusals, line) in
+    ap (λ q. Err q) at
 
 -- so all is as it should be afterwards
 module _ (ks xs rs : List ℕ) where

@@ -1,125 +1,128 @@
--- What a text says at a cursor. Where the next line is none, its number is that of the answer; where it is
--- one, its characters are a part of the text that stands for bytes, and the frame that was read of it is
--- theirs. Assumes nothing.
-use Prim.Native.Nat.{ℕ, ◌+◌}
-use mathlib.Core.Path.{◌≡◌, refl, sym, ap, ◌∙◌}
-use mathlib.Core.Bool.{Bool, true, false, not}
-use mathlib.Core.List.{List, [], ◌∷◌, map}
-use mathlib.Core.Option.{none, some}
-use native.Mathlib.Omega.{arith}
-use lib.ListN.{length, drop}
-use lib.Dec.{eqb}
-use borrow.Author.Tests.{eq-eqb, ne_eqb}
-use Rattle.lines.specs.Line.{choose, Raw, lines, bytes, characters, refusal}
+-- What a text says at a cursor. Where a line is wanted and there is none, the refusal's number is what is said; where there is
+-- one, its characters are a part of the text that stands for bytes, and the frame that was read of it is theirs. Assumes nothing.
+use Rattle.std.proofs.Common.{ℕ, ◌+◌, ◌≡◌, refl, sym, ap, ◌∙◌, List, [], ◌∷◌, map, length, drop, Bool}
+use Rattle.std.proofs.Common.{true, false, not, eqb, Ok, Err, arith, ne_eqb}
+use Rattle.std.proofs.lemmas.Bool.{not-true, not-false}
+use Rattle.std.proofs.Math.Option.{Option, none, some}
+use Rattle.lines.specs.Line.{Raw, lines, bytes, characters, seen, answer_of}
+use Rattle.lines.specs.Refusal.{number, wanted}
 use Rattle.lines.specs.code.Characters.{part}
 use Rattle.lines.specs.declared.Line.{Line}
 use Rattle.lines.specs.declared.Line.TheVariants.{Found, NoLine, End}
-use Rattle.lines.proofs.Laws.{not_a_line, none_left}
-use Rattle.desk_lines.specs.DeskLine.{small, desk_form, desk_frame, desk_answer}
+use Rattle.lines.specs.declared.Span.{Span}
+use Rattle.lines.specs.declared.Refusal.{Refusal}
+use Rattle.lines.specs.declared.Refusal.TheVariants.{NotALine, WrongFrame}
+use Rattle.lines.proofs.Refusals.{counted}
+use Rattle.desk_lines.specs.DeskLine.{small, desk_frame, desk_answer}
 use Rattle.desk_lines.proofs.Laws.{DeskLine, desk_line}
 use Rattle.numbers.specs.code.Numbers.{read_bytes}
 use Rattle.numbers.proofs.Laws.{desk_read}
 use Rattle.frames.specs.TableFrame.{frame_of, first_refusal}
-use Rattle.refusals.specs.code.Said.{heard, said, opens, opened_by, opened}
 use Rattle.frames.specs.declared.Frame.{Frame}
 use Rattle.frames.specs.declared.Frame.TheVariants.{Opening, Definition, Term, Closing, Wrong}
-use Rattle.refusals.specs.declared.Said.TheVariants.{Goes, Stops}
-use Rattle.refusals.specs.declared.TableOpened.TheVariants.{Table, Fails}
+use Rattle.refusals.specs.code.Said.{Goes, Stops, Table, Fails, heard, said, opens, opened_by, opened}
 
--- an answer other than a found line, and a frame other than line 1's
-abbrev pub NotFound : Line → Type 0
-NotFound l = (e n : ℕ) → l ≡ Found e n → ⊥
-
+-- a frame other than line 1's
 abbrev pub NotOpening : Frame → Type 0
 NotOpening f = (ed dd ee : ℕ) → f ≡ Opening ed dd ee → ⊥
 
--- no line: 1 where there is something else, and 2 where there is nothing
+-- where a line is wanted and there is none: 1 where there is something else, and 2 where there is nothing
 no_line : {A : Type 0} (told : ℕ → A) (of : List Raw → A) → told 2 ≡ of []
     → ((l : Raw) (ls : List Raw) → desk_frame l ≡ none → told 1 ≡ of (l ∷ ls))
-    → (s : List ℕ) (at : ℕ) (l : Line) → l ≡ desk_answer at (lines (drop at s)) → NotFound l
-    → told (refusal l) ≡ of (lines (drop at s))
-unfolding refusal
-no_line told of nothing broken s at (Found e n) q h = absurd (h e n refl)
-no_line told of nothing broken s at NoLine q h =
-    let r = not_a_line desk_form s at (sym q) in
-    broken r.line r.others r.broken ∙ ap of (sym r.first)
-no_line told of nothing broken s at End q h = nothing ∙ ap of (sym (none_left desk_form s at (sym q)))
-
-module _ (s : List ℕ) (at : ℕ) {l : Line} (seen : l ≡ desk_answer at (lines (drop at s))) (none : NotFound l) where
-  pub said_none : (r : Frame → ℕ) {x : ℕ} → x ≡ refusal l → Stops x ≡ said r at (lines (drop at s))
-  unfolding said heard
-  said_none r e = ap Stops e ∙ no_line Stops (said r at) refl (λ l ls b. rw b) s at l seen none
-
-  pub opened_none : {x : ℕ} → x ≡ refusal l → Fails x ≡ opened (lines (drop at s))
-  unfolding opened opened_by
-  opened_none e = ap Fails e ∙ no_line Fails opened refl (λ l ls b. rw b) s at l seen none
-
--- a line: where the next one begins, and what its bytes say
-said_line : (s : List ℕ) (at e n : ℕ) (i : DeskLine s at e n) (r : Frame → ℕ)
-    → heard r n (some i.held) ≡ said r at (lines (drop at s))
-unfolding said characters
-said_line s at e n i r = rw (i.first, i.framed, i.past)
-
-opened_line : (s : List ℕ) (e n : ℕ) (i : DeskLine s 0 e n) → opens n (frame_of i.held) ≡ opened (lines s)
-unfolding opened opened_by characters
-opened_line s e n i =
-    let p : length (characters i.line) + 1 ≡ n = omega (arith, i.past) in
-    rw (i.first, i.framed, p)
-
-module _ (r : Frame → ℕ) (n : ℕ) {f : Frame} (bs : List ℕ) (read : f ≡ frame_of bs) {x : ℕ} (meets : x ≡ r f)
+    → (at : ℕ) (ls : List Raw) (r : Refusal) → Err r ≡ wanted (desk_answer at ls) → told (number r) ≡ of ls
+unfolding wanted answer_of seen number
+no_line told of nothing broken at [] r q =
+    let same : r ≡ WrongFrame = cc in
+    ap (λ x. told (number x)) same ∙ nothing
+no_line told of nothing broken at (l ∷ ls) r q = go _ _ (desk_frame l) refl q
   where
-    heard_stops : (x ≡ 0 → ⊥) → Stops x ≡ heard r n (some bs)
-    unfolding heard
-    heard_stops h = rw (← read, ← meets) (simp (ne_eqb x 0 h))
+    go : (e n : ℕ) (o : Option (List ℕ)) → desk_frame l ≡ o → Err r ≡ wanted (seen e n o) → told (number r) ≡ of (l ∷ ls)
+    go e n none b q = let same : r ≡ NotALine = cc in ap (λ x. told (number x)) same ∙ broken l ls b
+    go e n (some bs) b q = let z : ◌≡◌ {A = ℕ} 0 1 = cc in absurd (omega arith)
 
-    heard_goes : x ≡ 0 → Goes f n ≡ heard r n (some bs)
-    unfolding heard
-    heard_goes h = rw (← read, ← meets) (simp (eq-eqb x 0 h))
+module _ (s : List ℕ) (at : ℕ) {l : Line} (seen : l ≡ desk_answer at (lines (drop at s))) {r : Refusal}
+    (none : Err r ≡ wanted l) where
+  pub said_none : (met : Frame → ℕ) → Stops (number r) ≡ said met at (lines (drop at s))
+  unfolding said heard
+  said_none met = no_line Stops (said met at) refl (λ l ls b. rw b) at _ r (none ∙ ap wanted seen)
 
-swapped : {A : Type 0} (t : Bool) (a b : A) → choose (not t) a b ≡ choose t b a
-swapped true a b = refl
-swapped false a b = refl
+  pub opened_none : Fails (number r) ≡ opened (lines (drop at s))
+  unfolding opened opened_by
+  opened_none = no_line Fails opened refl (λ l ls b. rw b) at _ r (none ∙ ap wanted seen)
 
-opens_first : (n ed dd ee : ℕ) {x b : Bool} → x ≡ not (eqb (first_refusal (Opening ed dd ee)) 0) → x ≡ b
-    → choose b (Fails 3) (Table dd ee n) ≡ opens n (Opening ed dd ee)
-unfolding opens
-opens_first n ed dd ee e h = rw (← h, e) (swapped (eqb (first_refusal (Opening ed dd ee)) 0) _ _)
+-- where there is one: its frame by its bytes
+pub record FrameAt (s : List ℕ) (at next : ℕ) (f : Frame) : Type 0 where
+  pub line : Raw
+  pub held : List ℕ
+  pub first : lines (drop at s) ≡ line ∷ lines (drop next s)
+  pub framed : desk_frame line ≡ some held
+  pub past : at + length (characters line) + 1 ≡ next
+  pub is : f ≡ frame_of held
 
-opens_other : (n : ℕ) (f : Frame) → NotOpening f → Fails 2 ≡ opens n f
-unfolding opens
-opens_other n (Opening ed dd ee) h = absurd (h ed dd ee refl)
-opens_other n (Definition k) h = refl
-opens_other n (Term k p) h = refl
-opens_other n (Closing t) h = refl
-opens_other n Wrong h = refl
+found : (l : Line) (p : Span) → Ok p ≡ wanted l → l ≡ Found p.end p.next
+unfolding wanted
+found (Found e n) p q = let same : p ≡ record { end = e; next = n } = cc in rw same
+found NoLine p q = let z : ◌≡◌ {A = ℕ} 0 1 = cc in absurd (omega arith)
+found End p q = let z : ◌≡◌ {A = ℕ} 0 1 = cc in absurd (omega arith)
 
--- what was found at a cursor, and the frame that was read of its characters
-module _ (s : List ℕ) (at e n : ℕ) {l : Line} (seen : l ≡ desk_answer at (lines (drop at s))) (found : l ≡ Found e n)
-    {cs : List ℕ} (chars : cs ≡ part s at e) {f : Frame} (read : f ≡ frame_of (read_bytes cs)) where
-  its : DeskLine s at e n
-  its = desk_line s at e n (sym seen ∙ found)
+pub frame_at : (s : List ℕ) (at : ℕ) {l : Line} → l ≡ desk_answer at (lines (drop at s)) → {p : Span} → Ok p ≡ wanted l
+    → {cs : List ℕ} → cs ≡ part s at p.end → {f : Frame} → f ≡ frame_of (read_bytes cs) → FrameAt s at p.next f
+frame_at s at {l} finds {p} is {cs} chars read =
+    let i : DeskLine s at p.end p.next = desk_line s at p.end p.next (sym finds ∙ found l p is) in
+    record {
+      line = i.line;
+      held = i.held;
+      first = i.first;
+      framed = i.framed;
+      past = i.past;
+      is = read ∙ ap frame_of (desk_read cs i.held (ap (λ x. bytes (map small x)) chars ∙ i.stands));
+    }
 
-  framed : f ≡ frame_of its.held
-  framed = read ∙ ap frame_of (desk_read cs its.held (ap (λ (x : List ℕ). bytes (map small x)) chars ∙ its.stands))
+module _ {s : List ℕ} {at n : ℕ} {f : Frame} (i : FrameAt s at n f) (met : Frame → ℕ) where
+  said_line : heard met n (some i.held) ≡ said met at (lines (drop at s))
+  unfolding said characters
+  said_line = rw (i.first, i.framed, i.past)
 
-  module _ (r : Frame → ℕ) {x : ℕ} (meets : x ≡ r f) where
-    pub said_stops : (x ≡ 0 → ⊥) → Stops x ≡ said r at (lines (drop at s))
-    said_stops h = heard_stops r n its.held framed meets h ∙ said_line s at e n its r
+  pub said_stops : (r : Refusal) → number r ≡ met f → Stops (number r) ≡ said met at (lines (drop at s))
+  unfolding heard
+  said_stops r meets =
+      let same : number r ≡ met (frame_of i.held) = meets ∙ ap met i.is in
+      let some : eqb (number r) 0 ≡ false = ne_eqb _ 0 (λ q. omega (arith, counted r)) in
+      rw (← same) (simp some) ∙ said_line
 
-    pub said_goes : x ≡ 0 → Goes f n ≡ said r at (lines (drop at s))
-    said_goes h = heard_goes r n its.held framed meets h ∙ said_line s at e n its r
+  pub said_goes : 0 ≡ met f → Goes f n ≡ said met at (lines (drop at s))
+  unfolding heard
+  said_goes meets =
+      let same : 0 ≡ met (frame_of i.held) = meets ∙ ap met i.is in
+      rw (← same, ← i.is) refl ∙ said_line
 
-module _ (s : List ℕ) (e n : ℕ) {l : Line} (seen : l ≡ desk_answer 0 (lines s)) (found : l ≡ Found e n)
-    {cs : List ℕ} (chars : cs ≡ part s 0 e) {f : Frame} (read : f ≡ frame_of (read_bytes cs)) where
-  opened_is : opens n f ≡ opened (lines s)
-  opened_is =
-      ap (opens n) (framed s 0 e n seen found chars read)
-      ∙ opened_line s e n (its s 0 e n seen found chars read)
+module _ {s : List ℕ} {n : ℕ} {f : Frame} (i : FrameAt s 0 n f) where
+  opened_line : opens n f ≡ opened (lines s)
+  unfolding opened opened_by characters
+  opened_line =
+      let p : length (characters i.line) + 1 ≡ n = omega (arith, i.past) in
+      rw (i.first, i.framed, p, i.is)
 
   pub opened_other : NotOpening f → Fails 2 ≡ opened (lines s)
-  opened_other h = opens_other n f h ∙ opened_is
+  unfolding opens
+  opened_other h = go f h ∙ opened_line
+    where
+      go : (f : Frame) → NotOpening f → Fails 2 ≡ opens n f
+      go (Opening ed dd ee) h = absurd (h ed dd ee refl)
+      go (Definition k) h = refl
+      go (Term k p) h = refl
+      go (Closing t) h = refl
+      go Wrong h = refl
 
-  pub opened_first : {ed dd ee : ℕ} → f ≡ Opening ed dd ee → {x b : Bool}
-      → x ≡ not (eqb (first_refusal (Opening ed dd ee)) 0) → x ≡ b
-      → choose b (Fails 3) (Table dd ee n) ≡ opened (lines s)
-  opened_first {ed} {dd} {ee} o e h = opens_first n ed dd ee e h ∙ ap (opens n) (sym o) ∙ opened_is
+  module _ {ed dd ee : ℕ} (o : f ≡ Opening ed dd ee) {x : Bool} (tested : x ≡ not (eqb (first_refusal (Opening ed dd ee)) 0)) where
+    pub opened_outside : x ≡ true → Fails 3 ≡ opened (lines s)
+    unfolding opens
+    opened_outside h =
+        let outside = not-true _ (sym tested ∙ h) in
+        sym (rw (o, outside)) ∙ opened_line
+
+    pub opened_inside : x ≡ false → Table dd ee n ≡ opened (lines s)
+    unfolding opens
+    opened_inside h =
+        let inside = not-false _ (sym tested ∙ h) in
+        sym (rw (o, inside)) ∙ opened_line

@@ -1,10 +1,7 @@
 -- What is known of a frame that meets no refusal: each of the tests in front of 0 failed. Assumes nothing.
-use Prim.Native.Nat.{ℕ, suc, ◌+◌, ◌≤◌, ◌<◌}
-use mathlib.Core.Path.{◌≡◌, refl}
-use mathlib.Core.Bool.{Bool, true, false, ◌||◌}
-use native.Mathlib.Omega.{arith}
-use lib.Dec.{eqb}
-use borrow.Author.Tests.{leb-false, ltb-false, eqb-true, eqb-false, not-false}
+use Rattle.std.proofs.Common.{ℕ, suc, ◌+◌, ◌≤◌, ◌<◌, ◌≡◌, refl, Bool, true, false, ◌||◌, arith, eqb}
+use Rattle.std.proofs.Common.{leb-false, ltb-false, eqb-true}
+use Rattle.std.proofs.lemmas.Bool.{eqb-false, not-false}
 use Rattle.lines.specs.Line.{choose}
 use Rattle.kinds.specs.Kind.{prefix}
 use Rattle.frames.specs.TableFrame.{limit, longest, refusal}

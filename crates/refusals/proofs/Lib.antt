@@ -1,5 +1,5 @@
 -- Laws of this crate: `Cursor`, of what a text says at a cursor; `Fine`, of what is known where it meets none;
--- `Refusals`, of the number that a frame meets.
+-- `Told`, of what an answer tells.
 pub mod Cursor
 pub mod Fine
-pub mod Refusals
+pub mod Told

@@ -4,8 +4,9 @@
 
 ghost use Rattle.std.specs.Prelude.{◌≡◌, drop, leb, ltb, eqb, not};
 ghost use Rattle.frames.specs.TableFrame as table;
-ghost use Rattle.refusals.specs.code.Said.{stop, failure, said, opened};
+ghost use Rattle.refusals.specs.code.Said.{said, opened, first_told, line_told};
 ghost use Rattle.lines.specs.Line.{lines};
+ghost use Rattle.lines.specs.Refusal.{told};
 ghost use Rattle.frames.specs.declared.Frame.TheVariants.{Opening, Definition, Term, Closing};
 
 use frames::{
@@ -14,204 +15,140 @@ use frames::{
 };
 use kinds::{CALL, PARALLEL, PREFIX};
 use line_reader::{Spelling, characters, next_line};
-use lines::{INCOMPLETE, Line, OUT_OF_RANGE, TERM_OVER_ROOM, WRONG_FRAME, refusal_of};
+use lines::{Refusal, Span, wanted};
 
-// What line 1 opens: a table of so many definitions and events, with the next line from `next` on, or the
-// number of its refusal.
+// What line 1 opens: a table of so many definitions and events, with the next line from `next` on.
 #[derive(Clone, Copy)]
-pub enum TableOpened {
-    Table {
-        definitions: usize,
-        events: usize,
-        next: usize,
-    },
-    Fails(u8),
+pub struct TableOpening {
+    pub definitions: usize,
+    pub events: usize,
+    pub next: usize,
 }
 
-// What a line says: its frame, with the next line from `next` on, or the number of its refusal.
+// What a line says: its frame, with the next line from `next` on.
 #[derive(Clone, Copy)]
-pub enum Said {
-    Goes { frame: Frame, next: usize },
-    Stops(u8),
+pub struct FrameLine {
+    pub frame: Frame,
+    pub next: usize,
 }
 
 // Line 1 of a table.
-pub fn first_line(text: &[u8]) -> TableOpened
-    ensures { result ≡ opened (lines text.now) }
+pub fn first_line(text: &[u8]) -> Result<TableOpening, Refusal>
+    ensures { first_told result ≡ opened (lines text.now) }
 {
-    let line = next_line(text, 0, Spelling::Desk);
-    let Line::Found { end, next } = line else {
-        return TableOpened::Fails(refusal_of(line));
-    };
-    let frame = read_frame(characters(text, 0, end));
+    let Span { end, next } = wanted(next_line(text, 0, Spelling::Desk))?;
     let Frame::Opening {
         edition,
         definitions,
         events,
-    } = frame
+    } = read_frame(characters(text, 0, end))
     else {
-        return TableOpened::Fails(WRONG_FRAME);
+        return Err(Refusal::WrongFrame);
     };
     if opening_outside(edition, definitions, events) {
-        return TableOpened::Fails(OUT_OF_RANGE);
+        return Err(Refusal::OutOfRange);
     }
-    TableOpened::Table {
-        definitions: definitions as usize,
-        events: events as usize,
+    Ok(TableOpening {
+        definitions: usize::from(definitions),
+        events: usize::from(events),
         next,
-    }
+    })
 }
 
 // An edition other than 01, or a count out of its range.
 fn opening_outside(edition: u8, definitions: u8, events: u8) -> bool
     ensures { result ≡ not (eqb (table.first_refusal (Opening edition definitions events)) 0) }
 {
-    if edition != TABLE_EDITION {
-        return true;
-    }
-    if definitions < 1 {
-        return true;
-    }
-    if MOST_DEFINITIONS < definitions {
-        return true;
-    }
-    MOST_EVENTS < events
+    edition != TABLE_EDITION
+        || definitions < 1
+        || MOST_DEFINITIONS < definitions
+        || MOST_EVENTS < events
 }
 
 // The line at a cursor behind line 1.
-pub fn table_line(text: &[u8], at: usize, s: Seen) -> Said
-    ensures { result ≡ said (λ f. table.refusal f s) at (lines (drop at text.now)) }
+pub fn table_line(text: &[u8], at: usize, s: Seen) -> Result<FrameLine, Refusal>
+    ensures { line_told result ≡ said (λ f. table.refusal f s) at (lines (drop at text.now)) }
 {
-    let line = next_line(text, at, Spelling::Desk);
-    let Line::Found { end, next } = line else {
-        return Said::Stops(refusal_of(line));
-    };
+    let Span { end, next } = wanted(next_line(text, at, Spelling::Desk))?;
     let frame = read_frame(characters(text, at, end));
-    let number = refusal(frame, s);
-    if number != 0 {
-        return Said::Stops(number);
-    }
-    Said::Goes { frame, next }
+    refusal(frame, s)?;
+    Ok(FrameLine { frame, next })
 }
 
-// The number that a frame behind line 1 meets, the lowest where there are several, 0 where it meets none.
-fn refusal(frame: Frame, s: Seen) -> u8
-    ensures { result ≡ table.refusal frame s }
+// The refusal that a frame behind line 1 meets, the one of the lowest number where there are several.
+fn refusal(frame: Frame, s: Seen) -> Result<(), Refusal>
+    ensures { told result ≡ table.refusal frame s }
 {
     match frame {
         Frame::Term { kind, payload } => term_refusal(kind, payload, s),
         Frame::Definition(n) => definition_refusal(n, s),
         Frame::Closing(count) => closing_refusal(count, s),
-        Frame::Opening {
-            edition: _,
-            definitions: _,
-            events: _,
-        } => WRONG_FRAME,
-        Frame::Wrong => WRONG_FRAME,
+        Frame::Opening { .. } | Frame::Wrong => Err(Refusal::WrongFrame),
     }
 }
 
-fn definition_refusal(n: u8, s: Seen) -> u8
-    ensures { result ≡ table.refusal (Definition n) s }
+fn definition_refusal(n: u8, s: Seen) -> Result<(), Refusal>
+    ensures { told result ≡ table.refusal (Definition n) s }
 {
-    let number = n as usize;
-    if number != s.begun {
-        return OUT_OF_RANGE;
-    }
-    if s.definitions <= number {
-        return OUT_OF_RANGE;
+    let number = usize::from(n);
+    if number != s.begun || s.definitions <= number {
+        return Err(Refusal::OutOfRange);
     }
     if s.due != 0 {
-        return INCOMPLETE;
+        return Err(Refusal::Incomplete);
     }
-    0
+    Ok(())
 }
 
-fn closing_refusal(count: u64, s: Seen) -> u8
-    ensures { result ≡ table.refusal (Closing count) s }
+fn closing_refusal(count: u64, s: Seen) -> Result<(), Refusal>
+    ensures { told result ≡ table.refusal (Closing count) s }
 {
+    // No `From` makes a usize a u64.
     if count != s.terms as u64 {
-        return OUT_OF_RANGE;
+        return Err(Refusal::OutOfRange);
     }
-    if 0 < s.due {
-        return INCOMPLETE;
+    if 0 < s.due || s.begun < s.definitions {
+        return Err(Refusal::Incomplete);
     }
-    if s.begun < s.definitions {
-        return INCOMPLETE;
-    }
-    0
+    Ok(())
 }
 
-fn term_refusal(kind: u8, payload: u64, s: Seen) -> u8
-    ensures { result ≡ table.refusal (Term kind payload) s }
+fn term_refusal(kind: u8, payload: u64, s: Seen) -> Result<(), Refusal>
+    ensures { told result ≡ table.refusal (Term kind payload) s }
 {
     if s.begun == 0 {
-        return WRONG_FRAME;
+        return Err(Refusal::WrongFrame);
     }
     if over_limit(kind, payload, s) {
-        return OUT_OF_RANGE;
+        return Err(Refusal::OutOfRange);
     }
     if s.due == 0 {
-        return INCOMPLETE;
+        return Err(Refusal::Incomplete);
     }
-    if TERM_ROOM <= s.terms {
-        return TERM_OVER_ROOM;
+    if TERM_ROOM <= s.terms || too_deep(kind, s) {
+        return Err(Refusal::TermOverRoom);
     }
-    if too_deep(kind, s) {
-        return TERM_OVER_ROOM;
-    }
-    0
+    Ok(())
 }
 
-// A payload that names no definition, no event, or a set with an event that the table does not have.
+// A payload that names no definition, no event, or a set with an event that the table does not have. No `From` makes a usize a u64.
 fn over_limit(kind: u8, payload: u64, s: Seen) -> bool
     ensures { result ≡ leb (table.limit s kind) payload }
 {
-    if kind == CALL {
-        return s.definitions as u64 <= payload;
+    match kind {
+        CALL => s.definitions as u64 <= payload,
+        PREFIX => s.events as u64 <= payload,
+        PARALLEL => s.events < EVENT_ROOM && (1u64 << s.events) <= payload,
+        _ => 1 <= payload,
     }
-    if kind == PREFIX {
-        return s.events as u64 <= payload;
-    }
-    if kind == PARALLEL {
-        if EVENT_ROOM <= s.events {
-            return false;
-        }
-        return (1u64 << s.events) <= payload;
-    }
-    1 <= payload
 }
 
 // A term with a literal below the longest path: a prefix's event stands one digit further down.
 fn too_deep(kind: u8, s: Seen) -> bool
     ensures { result ≡ ltb table.path_room (table.longest s kind) }
 {
-    if kind == PREFIX {
-        return PATH_ROOM <= s.depth;
-    }
-    PATH_ROOM < s.depth
-}
-
-// The number that a line stops with.
-pub fn stop_of(said: Said) -> u8
-    ensures { result ≡ stop said }
-{
-    match said {
-        Said::Goes { frame: _, next: _ } => 0,
-        Said::Stops(number) => number,
-    }
-}
-
-// The number that line 1 fails with.
-pub fn failure_of(first: TableOpened) -> u8
-    ensures { result ≡ failure first }
-{
-    match first {
-        TableOpened::Table {
-            definitions: _,
-            events: _,
-            next: _,
-        } => 0,
-        TableOpened::Fails(number) => number,
+    match kind {
+        PREFIX => PATH_ROOM <= s.depth,
+        _ => PATH_ROOM < s.depth,
     }
 }

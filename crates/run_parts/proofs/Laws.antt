@@ -8,9 +8,9 @@ use borrow.Author.Tests.{le-leb, lt-leb}
 use Rattle.lines.specs.Line.{Raw}
 use Rattle.scripts.specs.Script as Script
 use Rattle.runs.specs.code.Doors as Run
-use Rattle.runs.specs.declared.Answer.{Answer}
+use Rattle.runs.specs.Answer.{Answer}
 use Rattle.playing.specs.code.Playing as Line
-use Rattle.playing.specs.declared.Played.{Played}
+use Rattle.playing.specs.Played.{Played}
 use Rattle.offering.specs.code.Offering.{seen}
 use Rattle.offering.specs.declared.Offered.{Offered}
 use Rattle.offers.specs.code.Following.{offered}

@@ -10,10 +10,10 @@ use answers::{
     DONE, Head, RUN_STAMP, cursor_behind, of_offers, of_played, of_refusal, of_status, of_step,
     unready,
 };
-use columns::{Payloads, wide};
+use columns::Payloads;
 use control::{Counters, Nodes, Track};
 use counting::REFERENCE;
-use lines::NO_DERIVATION;
+use lines::Refusal;
 use offers::offers;
 use plans::Plan;
 use playing::play;
@@ -59,7 +59,7 @@ pub fn step_parts<'s, 'b>(
     }
     let count = address.len();
     if DIGIT_ROOM < count {
-        return of_refusal(NO_DERIVATION);
+        return of_refusal(Refusal::NoDerivation.number());
     }
     put_copy(address, count, 0, digits);
     of_step(step(count, digits, plan, sets, nodes, track, counters))
@@ -113,7 +113,7 @@ pub fn offers_parts<'n, 'b>(
     if unready != DONE {
         return unready;
     }
-    let offered = offers(wide(counters[REFERENCE]), plan, sets, nodes);
+    let offered = offers(usize::from(counters[REFERENCE]), plan, sets, nodes);
     *events = offered.events;
     of_offers(offered)
 }
@@ -134,5 +134,5 @@ pub fn status_parts<'b>(
     if unready != DONE {
         return unready;
     }
-    of_status(status_at(wide(counters[REFERENCE]), plan, sets, nodes))
+    of_status(status_at(usize::from(counters[REFERENCE]), plan, sets, nodes))
 }

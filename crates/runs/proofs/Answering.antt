@@ -1,15 +1,10 @@
 -- The answer of a step is the report's, and the words that it leaves hold the state behind it. A refusal leaves everything as it
 -- was. An accepted step's words are those that `Performing` and `Keeping` tell of. Digits that are no address weigh nothing that
 -- ends behind the last of them. Assumes nothing.
-use Prim.Native.Nat.{ℕ, zero, suc, ◌-◌, ◌≤◌, ◌<◌}
-use mathlib.Core.Path.{◌≡◌, refl, sym, ◌∙◌}
-use mathlib.Core.Bool.{true, false}
-use mathlib.Core.List.{List, [], ◌∷◌}
-use mathlib.Core.Option.{Option, none, some}
-use native.Mathlib.Omega.{arith}
-use lib.ListN.{length}
-use lib.Dec.{eqb}
-use borrow.Author.Tests.{eq-eqb, ne_eqb}
+use Rattle.std.specs.Prelude.{ℕ, zero, suc, ◌-◌, ◌≤◌, ◌<◌, ◌≡◌, true, false, List, [], ◌∷◌}
+use Rattle.std.proofs.Common.{refl, sym, ◌∙◌, arith}
+use Rattle.std.proofs.Common.{length, eqb, eq-eqb, ne_eqb}
+use Rattle.std.proofs.Math.Option.{Option, none, some}
 use Rattle.terms.specs.Term.{Term}
 use Rattle.rules.specs.Process.{Digit, one, two, three, four, Address}
 use Rattle.rules.specs.Track.{Outcome}
@@ -19,8 +14,8 @@ use Rattle.rules.specs.Run as Run
 use Rattle.rules.proofs.Derived.{step_exactly}
 use Rattle.plans.specs.words.Plan.{Layout}
 use Rattle.looking.specs.code.Looking.{digit_at}
-use Rattle.weights.specs.declared.Weighed.{Weighed}
-use Rattle.weights.specs.declared.Weighed.TheVariants.{Derived, Nothing}
+use Rattle.weights.specs.code.Rules.{Weighed}
+use Rattle.std.specs.Prelude.{Some, None}
 use Rattle.weighing.proofs.Told as Told
 use Rattle.weighing.proofs.Told.{number, From, weight_of, digit_none, from_left}
 use Rattle.counting.specs.code.Counting.{reference, cells as cell-count, arcs}
@@ -99,8 +94,8 @@ module _ (l : Layout) (p x : List ℕ) (ts : List Term) (count : ℕ) (ds : List
   none_weighs : (k : ℕ) → k < count → (v : Weighed) → Stops k v
       → Keeps l p x ts s (by_weight p x count ds w g c v) (Run.refused 7)
   unfolding by_weight
-  none_weighs k h Nothing stops = refuses 7
-  none_weighs k h (Derived d) stops = rw (ne_eqb d.at count (λ e. omega arith)) (refuses 7)
+  none_weighs k h None stops = refuses 7
+  none_weighs k h (Some d) stops = rw (ne_eqb d.at count (λ e. omega arith)) (refuses 7)
 
   weight_stops : (k : ℕ) → digit_of (digit_at ds count k) ≡ none → Stops k (weight p x count ds w g c)
   unfolding weight

@@ -1,14 +1,8 @@
 -- The start's call, as the words perform it: reference 0 is labelled with the left-hand side of definition 00 and gets an
 -- arc to reference 1, where the root of definition 00 rests. Assumes nothing.
-use Prim.Native.Nat.{ℕ}
-use mathlib.Core.Path.{◌≡◌, refl, sym, ap, subst, ◌∙◌}
-use mathlib.Core.Bool.{Bool, true, false}
-use mathlib.Core.List.{List, []}
-use mathlib.Core.Option.{Option, none, some, none-ne-some}
-use native.Mathlib.Omega.{arith}
+use Rattle.std.proofs.Common.{ℕ, ◌≡◌, refl, sym, ap, subst, ◌∙◌, Bool, true, false, List, [], arith, eqb, eqb-true}
+use Rattle.std.proofs.Math.Option.{Option, none, some, none-ne-some}
 use lib.ListN.{get_elem?}
-use lib.Dec.{eqb}
-use borrow.Author.Tests.{eqb-true}
 use Rattle.lines.specs.Line.{choose}
 use Rattle.terms.specs.Term.{Term}
 use Rattle.places.specs.Place.{Place, left_path}

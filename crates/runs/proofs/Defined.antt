@@ -1,11 +1,8 @@
 -- A run's table has every definition that its control calls: the table's definitions call none but its own, and control
 -- starts as a call of the first of them. Assumes nothing.
-use Prim.Native.Nat.{ℕ, ◌<◌}
-use mathlib.Core.Path.{◌≡◌, refl}
-use mathlib.Core.List.{List, [], ◌∷◌}
-use mathlib.Core.Option.{none}
-use native.Mathlib.Omega.{arith}
-use lib.ListN.{length, get_elem?}
+use Rattle.std.proofs.Common.{ℕ, ◌<◌, ◌≡◌, refl, List, [], ◌∷◌, arith, length}
+use Rattle.std.proofs.Math.Option.{none}
+use lib.ListN.{get_elem?}
 use Rattle.terms.specs.Term.{Term}
 use Rattle.rules.specs.Run.{State, Reached}
 use Rattle.rules.proofs.Ranged.{reached_ranged, ranged_calls, Calls}

@@ -1,10 +1,7 @@
 -- A step has no more event nodes than labels, since it labels each of them. By the derivation, rule by rule. Assumes
 -- nothing.
-use Prim.Native.Nat.{ℕ, ◌≤◌}
-use mathlib.Core.List.{List, ◌++◌}
-use mathlib.Core.Option.{Option}
-use native.Mathlib.Omega.{arith}
-use lib.ListN.{length, length-append}
+use Rattle.std.proofs.Common.{ℕ, ◌≤◌, List, ◌++◌, arith, length, length-append}
+use Rattle.std.proofs.Math.Option.{Option}
 use Rattle.terms.specs.Term.{Term}
 use Rattle.places.specs.Place.{Place}
 use Rattle.rules.specs.Process.{Address, Process}

@@ -1,15 +1,10 @@
 -- What a step leaves of a run: words that go from a state as the report's step of it goes hold the state behind that step.
 -- The counters stay below 65,536, since the step's result has room; reference 0, at which nothing stands, stays as it was.
 -- Assumes nothing.
-use Prim.Native.Nat.{ℕ, ◌≤◌, ◌<◌}
-use mathlib.Core.Path.{◌≡◌, refl, sym, ap, ◌∙◌}
-use mathlib.Core.Bool.{true, false}
-use mathlib.Core.List.{List, [], ◌∷◌, ◌++◌}
-use mathlib.Core.Option.{none, some}
-use native.Mathlib.Omega.{arith}
+use Rattle.std.proofs.Common.{ℕ, ◌≤◌, ◌<◌, ◌≡◌, refl, sym, ap, ◌∙◌, true, false, List, [], ◌∷◌, ◌++◌, arith, length}
+use Rattle.std.proofs.Common.{length-append, ne_eqb}
+use Rattle.std.proofs.Math.Option.{none, some}
 use native.Mathlib.Nat.{mod-eq_of_lt}
-use lib.ListN.{length, length-append}
-use borrow.Author.Tests.{ne_eqb}
 use Rattle.terms.specs.Term.{Term}
 use Rattle.rules.specs.Process.{Address, Process, leaf, prefix, internal, split, sequence, Ω, ⊥', cells}
 use Rattle.rules.specs.Step.{Stepped}

@@ -1,15 +1,14 @@
 -- What a step and a script's line come to, with the words after them, by what their tests found: each law
 -- takes what the calls on the way promise. Assumes nothing.
-use Prim.Native.Nat.{ℕ, zero, suc}
-use mathlib.Core.Path.{◌≡◌, refl, sym, ap, ◌∙◌}
-use mathlib.Core.Bool.{true}
-use mathlib.Core.List.{List}
-use lib.Dec.{eqb}
-use borrow.Author.Tests.{eq-eqb, ne_eqb}
+use Rattle.std.proofs.Common.{Some, None, Result, Ok, Err, ok_or, ℕ, zero, suc, ◌≡◌, refl, sym, ap, ◌∙◌, true}
+use Rattle.std.proofs.Common.{List, eqb, eq-eqb, ne_eqb}
+use Rattle.lines.specs.declared.Refusal.{Refusal}
+use Rattle.lines.proofs.Refusals.{number_once}
+use Rattle.rules.specs.declared.Event.{Event}
+use Rattle.rules.specs.declared.Event.TheVariants.{Tau}
 use Rattle.weighing.specs.code.Weigh.{at_reference}
 use Rattle.weights.specs.declared.Weight.{Weight}
-use Rattle.weights.specs.declared.Weighed.{Weighed}
-use Rattle.weights.specs.declared.Weighed.TheVariants.{Derived, Nothing}
+use Rattle.weights.specs.code.Rules.{Weighed}
 use Rattle.leaves.specs.code.Leaves.{called}
 use Rattle.stepping.specs.code.Take.{take}
 use Rattle.drawing.specs.declared.Tally.{Tally}
@@ -18,8 +17,7 @@ use Rattle.leaves.proofs.Laws.{Comes}
 use Rattle.counting.specs.code.Counting.{reference, cells, arcs, over_room, tally_of, recounted}
 use Rattle.runs.specs.code.Doors.{start_weight, control_levels, step_levels, weight, performed, Stepped, with_answer}
 use Rattle.runs.specs.code.Doors.{accepted, by_room, by_weight, stepped}
-use Rattle.runs.specs.declared.Answer.{Answer}
-use Rattle.runs.specs.declared.Answer.TheVariants.{Accepted, Refused}
+use Rattle.runs.specs.Answer.{Answer, Accepted, Refused, answer_told}
 
 -- weighing and taking, by whether the run has started
 module _ (p : List ℕ) (count : ℕ) (ds w g c : List ℕ) (n : ℕ) (n_is : n ≡ reference c) where
@@ -49,6 +47,27 @@ module _ (p : List ℕ) (count : ℕ) (ds w g c : List ℕ) (n : ℕ) (n_is : n 
     performed_on k k_is d v h so =
         simp (ne_eqb (reference c) 0 (λ z. runs (n_is ∙ z))) (rw (k_is, n_is, s_is) at so)
 
+-- a weight that is wanted, and the refusal where there is none
+pub wanted_some : (o : Weighed) (r : Refusal) (w : Weight) → ok_or o r ≡ Ok w → o ≡ Some w
+wanted_some None r w e = cc
+wanted_some (Some v) r w e = cc
+
+pub wanted_none : (o : Weighed) (r s : Refusal) → ok_or o r ≡ Err s → (o ≡ None) × (s ≡ r)
+wanted_none None r s e = (refl, cc)
+wanted_none (Some v) r s e = (cc, cc)
+
+-- what an answer tells, where it is no refusal
+event_of : Answer → Result Event Refusal
+event_of (Accepted s) = Ok s.event
+event_of (Refused n) = Ok Tau
+
+pub answer_told_once : (x y : Result Event Refusal) → answer_told x ≡ answer_told y → x ≡ y
+unfolding answer_told event_of
+answer_told_once (Ok e) (Ok f) same = ap event_of same
+answer_told_once (Ok e) (Err s) same = cc
+answer_told_once (Err r) (Ok f) same = cc
+answer_told_once (Err r) (Err s) same = ap Err (number_once r s cc)
+
 -- a step answers a, with words w, g and c after it
 abbrev pub Steps : Answer → List ℕ → List ℕ → List ℕ → Stepped → Type 0
 Steps a w g c s = with_answer a w g c ≡ s
@@ -68,20 +87,20 @@ module _ (p x : List ℕ) (count : ℕ) (ds w g c : List ℕ) where
     unfolding stepped
     all_by s h = ap (by_weight p x count ds w g c) (sym r_is ∙ h)
 
-    pub none_derived : r ≡ Nothing → Steps (Refused 7) w g c All
+    pub none_derived : r ≡ None → Steps (Refused 7) w g c All
     unfolding by_weight
-    none_derived h = sym (all_by Nothing h)
+    none_derived h = sym (all_by None h)
 
-    module _ (d : Weight) (derived : r ≡ Derived d) where
+    module _ (d : Weight) (derived : r ≡ Some d) where
       pub digits_left : (d.at ≡ count → ⊥) → Steps (Refused 7) w g c All
       unfolding by_weight
       digits_left h =
-          rw (all_by (Derived d) derived) (simp (ne_eqb d.at count h))
+          rw (all_by (Some d) derived) (simp (ne_eqb d.at count h))
 
       module _ (whole : d.at ≡ count) (n : ℕ) (n_is : n ≡ over_room d c) where
         all_by_room : All ≡ by_room p x count ds w g c n
         unfolding by_weight
-        all_by_room = rw (n_is, all_by (Derived d) derived) (simp (eq-eqb d.at count whole))
+        all_by_room = rw (n_is, all_by (Some d) derived) (simp (eq-eqb d.at count whole))
 
         pub room_passed : (n ≡ 0 → ⊥) → Steps (Refused n) w g c All
         room_passed h = rw all_by_room (by_number n h)

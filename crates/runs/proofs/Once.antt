@@ -2,11 +2,7 @@
 -- one, as many cells and labels, the same arcs and meetings in the same order, and the same place at each reference. The
 -- control is told by words and plan, since the table has every definition that it calls; all else by the words alone. Assumes
 -- nothing.
-use Prim.Native.Nat.{ℕ}
-use mathlib.Core.Path.{◌≡◌, sym, subst, ◌∙◌}
-use mathlib.Core.List.{List, []}
-use native.Mathlib.Omega.{arith}
-use lib.ListN.{length}
+use Rattle.std.proofs.Common.{ℕ, ◌≡◌, sym, subst, ◌∙◌, List, [], arith, length}
 use Rattle.terms.specs.Term.{Term}
 use Rattle.rules.specs.Process.{Process, cells}
 use Rattle.rules.specs.Run.{State}

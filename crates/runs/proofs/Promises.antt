@@ -1,11 +1,9 @@
 -- What the doors promise of a run, from what they promise of the words: `start_holds`, `step_answered` and `step_holds`.
 -- Assumes nothing.
-use Prim.Native.Nat.{ℕ}
-use mathlib.Core.Path.{◌≡◌, ap, ◌∙◌}
-use mathlib.Core.List.{List}
+use Rattle.std.proofs.Common.{ℕ, ◌≡◌, ap, ◌∙◌, List}
 use Rattle.runs.specs.code.Doors.{fresh_nodes, fresh_track, fresh_counters, Stepped, stepped}
 use Rattle.runs.specs.words.Held.{lent, Keeps, Begins}
-use Rattle.runs.specs.declared.Answer.{Answer}
+use Rattle.runs.specs.Answer.{Answer}
 use Rattle.runs.proofs.Laws.{Steps}
 use Rattle.runs.proofs.Starting.{start_holds}
 use Rattle.runs.proofs.Answering.{step_answered, step_holds}

@@ -1,13 +1,7 @@
 -- The rooms that a weight would pass are those that the state behind its step passes: the words count what the state has,
 -- and a count that stops at 65,535 is past every room. Assumes nothing.
-use Prim.Native.Nat.{ℕ, ◌+◌, ◌<◌}
-use mathlib.Core.Path.{◌≡◌, refl, ap, ◌∙◌}
-use mathlib.Core.Bool.{Bool, true, false}
-use mathlib.Core.List.{List, ◌++◌}
-use native.Mathlib.Omega.{arith}
-use lib.ListN.{length, length-append}
-use lib.Dec.{ltb}
-use borrow.Author.Tests.{ltb-true, ltb-false, lt-ltb, le-ltb}
+use Rattle.std.proofs.Common.{ℕ, ◌+◌, ◌<◌, ◌≡◌, refl, ap, ◌∙◌, Bool, true, false, List, ◌++◌, arith, length}
+use Rattle.std.proofs.Common.{length-append, ltb, ltb-true, ltb-false, lt-ltb, le-ltb}
 use Rattle.rules.specs.Process.{Address, cells}
 use Rattle.rules.specs.Track.{Outcome}
 use Rattle.rules.specs.Run.{State, after, cell_room, node_room, arc_room, meeting_room}

@@ -1,15 +1,13 @@
 -- Digits and addresses. The digits that stand in front of the lent array are the address that they are by themselves, since
 -- each is read back where it was put. And every address of at most 1,024 digits can be spelled: as the digits of a script's
 -- line, and in front of the array that a step takes; both are read back as itself. Assumes nothing.
-use Prim.Native.Nat.{ℕ, zero, suc, ◌+◌, ◌/◌, ◌%◌, ◌≤◌, ◌<◌}
-use mathlib.Core.Path.{◌≡◌, refl, ap, ap₂, ◌∙◌}
-use mathlib.Core.List.{List, [], ◌∷◌}
-use mathlib.Core.Option.{some}
-use native.Mathlib.Omega.{arith}
+use Rattle.std.specs.Prelude.{ℕ, zero, suc, ◌+◌, ◌/◌, ◌%◌, ◌≤◌, ◌<◌, ◌≡◌, List, [], ◌∷◌}
+use Rattle.std.proofs.Common.{refl, ap, ap₂, ◌∙◌, arith}
+use Rattle.std.proofs.Common.{length, get_or, lt-ltb}
+use Rattle.std.proofs.Math.Option.{some}
 use native.Mathlib.Nat.{zero-add, add-zero, add-suc, suc-add}
-use lib.ListN.{length, get_or, get_or-append}
+use lib.ListN.{get_or-append}
 use lib.Seq.{sets, sets-eq}
-use borrow.Author.Tests.{lt-ltb}
 use Rattle.scripts.specs.Script.{most, address, asked}
 use Rattle.scripts.proofs.Laws.{Each, asked_written}
 use Rattle.rules.specs.Process.{Digit, one, two, three, four, Address}

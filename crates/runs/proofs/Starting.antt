@@ -1,13 +1,8 @@
 -- A run that has just been started holds the start: every word is 0, so that nothing is labelled and nothing is drawn but
 -- reference 0. Assumes nothing.
-use Prim.Native.Nat.{ℕ, ◌+◌, ◌*◌}
-use mathlib.Core.Path.{◌≡◌, refl}
-use mathlib.Core.Bool.{Bool, true, false}
-use mathlib.Core.List.{List}
-use native.Mathlib.Omega.{arith}
-use lib.ListN.{get_or, replicate, length-replicate, get_or-replicate, get_or-eq_default}
-use lib.Dec.{ltb}
-use borrow.Author.Tests.{ltb-true, ltb-false}
+use Rattle.std.proofs.Common.{ℕ, ◌+◌, ◌*◌, ◌≡◌, refl, Bool, true, false, List, arith, get_or, replicate, ltb}
+use Rattle.std.proofs.Common.{ltb-true, ltb-false}
+use lib.ListN.{length-replicate, get_or-replicate, get_or-eq_default}
 use Rattle.lines.specs.Line.{choose}
 use Rattle.terms.specs.Term.{Term}
 use Rattle.rules.specs.Process.{cells}

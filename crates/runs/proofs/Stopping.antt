@@ -1,13 +1,8 @@
 -- No step gets past what is no digit: every rule that takes a digit stops there, so that the digits of a derivation end
 -- there at the latest, whatever the words hold. By how deep it is gone. Assumes nothing.
-use Prim.Native.Nat.{ℕ, zero, suc, ◌+◌, ◌≤◌, ◌<◌}
-use mathlib.Core.Path.{◌≡◌, refl}
-use mathlib.Core.Bool.{Bool, true, false, ◌&&◌, not}
-use mathlib.Core.List.{List}
-use mathlib.Core.Option.{none}
-use native.Mathlib.Omega.{arith}
-use lib.Dec.{eqb, leb}
-use borrow.Author.Tests.{eqb-true, leb-true, leb-false}
+use Rattle.std.proofs.Common.{ℕ, zero, suc, ◌+◌, ◌≤◌, ◌<◌, ◌≡◌, refl, Bool, true, false, ◌&&◌, not, List, arith, eqb}
+use Rattle.std.proofs.Common.{leb, eqb-true, leb-true, leb-false}
+use Rattle.std.proofs.Math.Option.{none}
 use Rattle.lines.specs.Line.{choose}
 use Rattle.kinds.specs.Kind as Kind
 use Rattle.plans.specs.words.Plan.{kind, operand, second, around}
@@ -22,16 +17,16 @@ use Rattle.looking.specs.code.Looking.{digit_at, is_split, is_side, is_within, s
 use Rattle.weighing.specs.code.Ending.{weigh_end}
 use Rattle.weighing.specs.code.Weigh.{levels, by_digit, of_term, at_reference}
 use Rattle.weights.specs.declared.Weight.{Weight}
-use Rattle.weights.specs.declared.Weighed.{Weighed}
-use Rattle.weights.specs.declared.Weighed.TheVariants.{Derived, Nothing}
+use Rattle.weights.specs.code.Rules.{Weighed}
+use Rattle.std.specs.Prelude.{Some, None}
 use Rattle.control.proofs.Capped.{capped_least}
 use Rattle.rules.specs.Addressed.{digit_of}
 use Rattle.runs.proofs.Reading.{no_digit}
 
 -- a weight whose digits end at k at the latest
 abbrev pub Stops : ℕ → Weighed → Type 0
-Stops k Nothing = Unit {0}
-Stops k (Derived d) = d.at ≤ k
+Stops k None = Unit {0}
+Stops k (Some d) = d.at ≤ k
 
 -- what is chosen, and what stops, for each result of a test
 stops_by : (k : ℕ) (b : Bool) (v w : Weighed) → (b ≡ true → Stops k v) → Stops k w → Stops k (choose b v w)
@@ -50,34 +45,34 @@ module _ (k : ℕ) where
 
   settled_stops : (w : Weighed) (b : Bool) → Stops k w → Stops k (settled w b)
   unfolding settled
-  settled_stops Nothing b h = tt
-  settled_stops (Derived w) b h = stops_either k b _ _ (started_stops w.event w h) h
+  settled_stops None b h = tt
+  settled_stops (Some w) b h = stops_either k b _ _ (started_stops w.event w h) h
 
   entering_stops : (w : Weighed) (n : ℕ) → Stops k w → Stops k (entering w n)
   unfolding entering
-  entering_stops Nothing n h = tt
-  entering_stops (Derived w) n h = h
+  entering_stops None n h = tt
+  entering_stops (Some w) n h = h
 
   one_stops : (q y : ℕ) (w : Weighed) (size own other : ℕ) (b : Bool) → Stops k w
       → Stops k (one q y w size own other b)
   unfolding one resized
-  one_stops q y Nothing size own other b h = tt
-  one_stops q y (Derived w) size own other b h =
+  one_stops q y None size own other b h = tt
+  one_stops q y (Some w) size own other b h =
       stops_either k (barred q y w.event) _ _ tt
       (stops_either k (stays q w.event) _ _ h (settled_stops _ b h))
 
   with_left : (q y : ℕ) (v : Weight) (w : Weighed) (size own other : ℕ) → Stops k w
-      → Stops k (both q y (Derived v) w size own other)
+      → Stops k (both q y (Some v) w size own other)
   unfolding both
-  with_left q y v Nothing size own other h = tt
-  with_left q y v (Derived w) size own other h = stops_either k (agree q y v.event w.event) _ _ h tt
+  with_left q y v None size own other h = tt
+  with_left q y v (Some w) size own other h = stops_either k (agree q y v.event w.event) _ _ h tt
 
   both_stops : (q y : ℕ) (v : Weighed) (across : ℕ → Weighed) (count size own other : ℕ) → Stops k v
       → ((from : ℕ) → from ≤ k → Stops k (across from))
       → Stops k (both q y v (across (end_of v count)) size own other)
   unfolding both end_of
-  both_stops q y Nothing across count size own other h g = tt
-  both_stops q y (Derived v) across count size own other h g = with_left q y v (across v.at) size own other (g v.at h)
+  both_stops q y None across count size own other h g = tt
+  both_stops q y (Some v) across count size own other h g = with_left q y v (across v.at) size own other (g v.at h)
 
 capped_most : (n : ℕ) → capped n ≤ n
 capped_most n = rw (capped_least n) (omega arith)
@@ -135,7 +130,7 @@ module _ (p x : List ℕ) (count : ℕ) (ds : List ℕ) (k : ℕ) (wrong : digit
           found_stops (in_front at h f (omega (arith, g)))
 
       go : (c : Bool) → is_side (digit_at ds count at) ≡ c
-          → Stops k (choose (not c) Nothing
+          → Stops k (choose (not c) None
           (choose (not (eqb (digit_at ds count at) 3)) (one (kind p t) (set_of x t) found size own other b)
           (both (kind p t) (set_of x t) found (across (end_of found count)) size own other)))
       go true e = stops_either k (not (eqb (digit_at ds count at) 3)) _ _

@@ -1,12 +1,9 @@
 -- The plan that is laid out from a checked table, the table's sets and its definitions are a table for runs.
 -- The plan holds the definitions and keeps to its rooms; the table's trees are within its definitions and
 -- events, and there is one. Assumes nothing.
-use Prim.Native.Nat.{ℕ, ◌<◌}
-use mathlib.Core.Path.{◌≡◌}
-use mathlib.Core.List.{List, [], ◌∷◌}
-use mathlib.Core.Option.{none}
-use native.Mathlib.Omega.{arith}
-use lib.ListN.{length, get_elem?}
+use Rattle.std.proofs.Common.{ℕ, ◌<◌, ◌≡◌, List, [], ◌∷◌, arith, length}
+use Rattle.std.proofs.Math.Option.{none}
+use lib.ListN.{get_elem?}
 use Rattle.lines.specs.Judging.{accepted}
 use Rattle.tables.specs.Table.{Sofar, judged}
 use Rattle.tables.specs.words.Columns.{kinds, payloads, afters, roots}

@@ -4,6 +4,7 @@
 
 ghost use Rattle.std.specs.Prelude.{◌≡◌};
 ghost use Rattle.leaves.specs.code.Leaves.{with_words};
+ghost use Rattle.runs.specs.Answer.{answer_told};
 ghost use Rattle.runs.specs.code.Doors as spec;
 ghost use Rattle.runs.specs.words.Held.{lent, Keeps, Begins};
 
@@ -11,32 +12,19 @@ use columns::Payloads;
 use control::{Counters, NODE_WORDS, Nodes, TRACK_WORDS, Track};
 use counting::{ARCS, CELLS, REFERENCE, counter, over_room, recount, tally_of};
 use leaves::{Taken, call_start};
-use lines::NO_DERIVATION;
+use lines::Refusal;
 use plans::Plan;
 use rules::Event;
 use scripts::Digits;
 use stepping::take;
 use weighing::weigh_at;
-use weights::{Weighed, Weight};
+use weights::Weight;
 
 // How deep control and the terms below it are gone down to, at most: a control has at most 1,024 cells, and an
 // untouched term 64 levels, each of which a step may enter.
 const CONTROL_LEVELS: usize = 1025;
 
 const STEP_LEVELS: usize = 2048;
-
-// What an accepted step shows.
-#[derive(Clone, Copy)]
-pub struct Shown {
-    pub event: Event,
-}
-
-// What an address comes to: a step, or the number of its refusal.
-#[derive(Clone, Copy)]
-pub enum Answer {
-    Accepted(Shown),
-    Refused(u8),
-}
 
 // Starts a run: control is the call of definition 00 at reference 0, and nothing is marked yet.
 pub fn start(nodes: &mut Nodes, track: &mut Track, counters: &mut Counters)
@@ -50,8 +38,8 @@ pub fn start(nodes: &mut Nodes, track: &mut Track, counters: &mut Counters)
     *counters = [0u16, 1, 1, 0, 0, 0, 0, 0];
 }
 
-// Steps a run by the first `count` of the digits. Where the words hold a run of a table's plan, the answer is document 01's,
-// and they hold the run behind it.
+// Steps a run by the first `count` of the digits, to the event that the step shows. Where the words hold a run of a table's
+// plan, the answer is document 01's, and they hold the run behind it.
 pub fn step(
     count: usize,
     digits: &Digits,
@@ -60,29 +48,23 @@ pub fn step(
     nodes: &mut Nodes,
     track: &mut Track,
     counters: &mut Counters,
-) -> Answer
-    ensures counters_after { spec.with_answer result nodes.new track.new counters.new
+) -> Result<Event, Refusal>
+    ensures counters_after { spec.with_answer (answer_told result) nodes.new track.new counters.new
         ≡ spec.stepped plan.now sets.now count digits.now
         nodes.old track.old counters.old }
     ensures keeps { Keeps plan.now sets.now count digits.now
-        (lent nodes.old track.old counters.old) result
+        (lent nodes.old track.old counters.old) (answer_told result)
         (lent nodes.new track.new counters.new) }
 {
     let weighed = weigh(count, digits, plan, sets, nodes, track, counters);
-    let Weighed::Derived(w) = weighed else {
-        return Answer::Refused(NO_DERIVATION);
-    };
+    let w = weighed.ok_or(Refusal::NoDerivation)?;
     if w.at != count {
-        return Answer::Refused(NO_DERIVATION);
+        return Err(Refusal::NoDerivation);
     }
-    let over = over_room(w, counters);
-    if over != 0 {
-        return Answer::Refused(over);
-    }
+    over_room(w, counters)?;
     let taken = perform(count, digits, plan, nodes, track, counters);
     recount(taken, counters);
-    let event = taken.event;
-    Answer::Accepted(Shown { event })
+    Ok(taken.event)
 }
 
 // Weighs the step that an address names.
@@ -94,7 +76,7 @@ fn weigh(
     nodes: &Nodes,
     track: &Track,
     counters: &Counters,
-) -> Weighed
+) -> Option<Weight>
     ensures { result ≡ spec.weight plan.now sets.now count digits.now
         nodes.now track.now counters.now }
 {
@@ -122,10 +104,10 @@ fn weigh(
 }
 
 // The start's call labels its node and draws once.
-fn start_weight() -> Weighed
+fn start_weight() -> Option<Weight>
     ensures { result ≡ spec.start_weight }
 {
-    Weighed::Derived(Weight {
+    Some(Weight {
         event: Event::Tau,
         at: 0,
         size: 1,

@@ -1,8 +1,7 @@
 -- Saving put together: the marks that are taken are those of the references drawn, so what the numbering gives
 -- is the numbered graph, and what is written is its text. Assumes nothing.
-use Prim.Native.Nat.{ℕ, min}
-use mathlib.Core.Path.{◌≡◌, ap, ◌∙◌}
-use mathlib.Core.List.{List}
+use Rattle.std.specs.Prelude.{ℕ, min, List, ◌≡◌}
+use Rattle.std.proofs.Common.{ap, ◌∙◌}
 use Rattle.columns.specs.words.Columns.{columns}
 use Rattle.control.specs.words.Words.{reference_room}
 use Rattle.counting.specs.code.Counting.{fresh, arcs, meetings}
@@ -12,7 +11,7 @@ use Rattle.links.specs.declared.GraphCounts.{GraphCounts}
 use Rattle.numbering.specs.code.Numbered.{GraphNumbered, with_counts, graph_numbered}
 use Rattle.framing.specs.words.Told.{graph_told}
 use Rattle.writing.specs.words.Slice.{with_slice, written}
-use Rattle.writing.specs.declared.Saved.{Saved}
+use Rattle.writing.specs.Answers.{Saved}
 use Rattle.saving.specs.code.Saving.{marks_from, marks, graph_saved, numbered_told, text_of}
 use Rattle.saving.specs.words.Kept.{Saves}
 use Rattle.saving.proofs.Promises.{saves}

@@ -1,12 +1,11 @@
 -- What saving owes a run, from what it comes to whatever the words hold: where they hold a run, the text is
 -- that of its track. Assumes nothing.
-use Prim.Native.Nat.{ℕ}
-use mathlib.Core.Path.{◌≡◌, ap, ◌∙◌}
-use mathlib.Core.List.{List}
+use Rattle.std.specs.Prelude.{ℕ, List, ◌≡◌}
+use Rattle.std.proofs.Common.{ap, ◌∙◌}
 use Rattle.columns.specs.words.Columns.{columns}
 use Rattle.runs.specs.words.Held.{lent}
 use Rattle.writing.specs.words.Slice.{with_slice, written}
-use Rattle.writing.specs.declared.Saved.{Saved}
+use Rattle.writing.specs.Answers.{Saved}
 use Rattle.saving.specs.code.Saving.{text_of}
 use Rattle.saving.specs.words.Kept.{Saves}
 use Rattle.saving.proofs.SavedTold.{saves_told}

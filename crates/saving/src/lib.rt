@@ -3,6 +3,7 @@
 
 ghost use Rattle.std.specs.Prelude.{◌≡◌, ◌≤◌, replicate};
 ghost use Rattle.walks.specs.code.Walked.{laid};
+ghost use Rattle.writing.specs.Answers.{saved_told};
 ghost use Rattle.writing.specs.words.Slice.{with_slice, written};
 ghost use Rattle.saving.specs.code.Saving as of;
 ghost use Rattle.columns.specs.words.Columns.{columns};
@@ -11,15 +12,15 @@ ghost use Rattle.saving.specs.words.Kept.{Saves};
 ghost use Rattle.control.specs.words.Words.{reference_room, track_words};
 ghost use Rattle.links.specs.code.Linked.{side_words};
 
-use columns::{After, Kinds, Owners, Roots, wide};
+use columns::{After, Kinds, Owners, Roots};
 use control::{Counters, LABEL, Nodes, REFERENCE_WORDS, REFERENCES, TRACK_WORDS, Track};
 use counting::{ARCS, FRESH, MEETINGS};
-use links::{Column, SideWords, at_most};
+use links::{Column, SideWords};
 use numbering::number;
-use writing::{Saved, write};
+use writing::{TooShort, write};
 
-// Saves a run into a slice: the text's length, or refusal 12 with the length that it would have. `Short` leaves the slice as
-// it was, and bytes past the text keep their content. The slice is all that is written; the other seven are scratch, and all 0
+// Saves a run into a slice: the text's length, or refusal 12 with the length that it would have. A slice that is too short is left
+// as it was, and bytes past the text keep their content. The slice is all that is written; the other seven are scratch, and all 0
 // afterwards.
 pub fn save(
     kinds: &Kinds,
@@ -37,8 +38,8 @@ pub fn save(
     numbers: &mut Column,
     spare: &mut Track,
     text: &mut [u8],
-) -> Saved
-    ensures text_after { with_slice result text.new ≡ written (of.text_of kinds.now owners.now
+) -> Result<usize, TooShort>
+    ensures text_after { with_slice (saved_told result) text.new ≡ written (of.text_of kinds.now owners.now
         after.now roots.now nodes.now track.now counters.now)
         text.old }
     ensures labels_after { labels.new ≡ replicate reference_room 0 }
@@ -50,12 +51,12 @@ pub fn save(
     ensures spare_after { spare.new ≡ replicate track_words 0 }
     ensures saves { Saves (columns kinds.now owners.now after.now roots.now)
         (lent nodes.now track.now counters.now) text.old
-        result text.new }
+        (saved_told result) text.new }
 {
-    take_marks(at_most(wide(counters[FRESH]), REFERENCES), nodes, marks);
+    take_marks(usize::from(counters[FRESH]).min(REFERENCES), nodes, marks);
     let counts = number(
-        wide(counters[ARCS]),
-        wide(counters[MEETINGS]),
+        usize::from(counters[ARCS]),
+        usize::from(counters[MEETINGS]),
         marks,
         track,
         kinds,
@@ -80,9 +81,7 @@ fn take_marks(count: usize, nodes: &Nodes, column: &mut Column)
     ensures { column.new ≡ laid (of.marks_from nodes.now 0 count) }
 {
     *column = [0u16; REFERENCES];
-    let mut n: usize = 0;
-    while n < count {
+    for n in 0..count {
         column[n] = nodes[REFERENCE_WORDS * n + LABEL];
-        n += 1;
     }
 }

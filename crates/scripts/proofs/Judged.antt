@@ -1,16 +1,12 @@
 -- A line of a script by its characters: what each test of the code says of what their bytes ask. Each test is one of
 -- `well_formed` or `in_range`. Assumes nothing.
-use Prim.Native.Nat.{ℕ, suc, ◌≤◌, ◌<◌, ◌-◌, ◌+◌, ◌/◌}
-use mathlib.Core.Path.{◌≡◌, sym, ap, ◌∙◌}
-use mathlib.Core.Bool.{Bool, true, false, and-false}
-use mathlib.Core.List.{List, ◌∷◌}
-use mathlib.Core.Option.{some}
-use native.Mathlib.Omega.{arith}
-use native.Mathlib.Numerals.{add-one}
-use lib.ListN.{length, take, drop, get_or, set, length-take, length-drop, drop_of_length-le}
-use lib.Dec.{eqb}
-use lib.Seq.{drop-cons, get_or-drop, sets}
-use borrow.Author.Tests.{le-leb, lt-leb, eq-eqb, ne_eqb}
+use Rattle.std.proofs.Common.{ℕ, suc, ◌≤◌, ◌<◌, ◌-◌, ◌+◌, ◌/◌, ◌≡◌, sym, ap, ◌∙◌, Bool, true, false, List, ◌∷◌, arith}
+use Rattle.std.proofs.Common.{add-one, length, take, drop, get_or, set, length-take, length-drop, drop_of_length-le}
+use Rattle.std.proofs.Common.{eqb, drop-cons, get_or-drop, le-leb, eq-eqb, ne_eqb}
+use mathlib.Core.Bool.{and-false}
+use Rattle.std.proofs.Math.Option.{some}
+use Rattle.std.proofs.lemmas.List.Edits.{sets}
+use borrow.Author.Tests.{lt-leb}
 use Rattle.lines.specs.Line.{number}
 use Rattle.numbers.specs.code.Numbers.{read_bytes, byte_at, number_of}
 use Rattle.numbers.proofs.Laws.{read_length, read_take, read_drop, number_read}

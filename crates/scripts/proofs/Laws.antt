@@ -1,19 +1,37 @@
--- What a caller of `next_step` may rely on: by which address a frame asks for a step, and that every address can
--- be asked for. The tests of `asked` are taken apart one way and met the other. Assumes nothing.
-use Prim.Native.Nat.{ℕ, zero, suc, ◌≤◌, ◌<◌, ◌+◌, ◌*◌, ◌/◌, ◌%◌}
-use mathlib.Core.Path.{◌≡◌, refl, sym, ap}
-use mathlib.Core.Bool.{true, ◌&&◌}
-use mathlib.Core.List.{List, [], ◌∷◌}
-use mathlib.Core.Option.{some}
-use native.Mathlib.Omega.{arith}
-use lib.ListN.{length, drop, get_or}
-use lib.Dec.{leb}
-use borrow.Author.Tests.{le-leb, leb-true, eq-eqb}
+-- What a caller of `next_step` may rely on: that what it tells is told of one answer, by which address a frame asks for a
+-- step, and that every address can be asked for. The tests of `asked` are taken apart one way and met the other. Assumes
+-- nothing.
+use Rattle.std.proofs.Common.{ℕ, zero, suc, ◌≤◌, ◌<◌, ◌+◌, ◌*◌, ◌/◌, ◌%◌, ◌≡◌, refl, sym, ap, true, ◌&&◌, List, []}
+use Rattle.std.proofs.Common.{◌∷◌, Option, Some, None, Result, Ok, Err, arith, length, drop, get_or, leb, le-leb}
+use Rattle.std.proofs.Common.{leb-true, eq-eqb}
+use Rattle.std.proofs.Math.Option.{some}
 use Rattle.lines.specs.Line.{number_from}
+use Rattle.lines.specs.declared.Refusal.{Refusal}
 use Rattle.lines.proofs.Digits.{both}
+use Rattle.lines.proofs.Refusals.{number_once}
+use Rattle.scripts.specs.declared.Address.{Address as Found}
+use Rattle.scripts.specs.ScriptStep.{ScriptStep, Address, Refused, End, step_told}
 use Rattle.scripts.specs.Script.{most, digits, well_formed, all_digits, in_range, asked, address}
 use Rattle.scripts.specs.code.Answers.{refusal}
 use Rattle.scripts.proofs.Steps.{is_step}
+
+-- what is asked for, where it is no refusal
+found : ScriptStep → Result (Option Found) Refusal
+found (Address n next) = Ok (Some (record { count = n; next = next }))
+found (Refused r) = Ok None
+found End = Ok None
+
+pub step_told_once : (x y : Result (Option Found) Refusal) → step_told x ≡ step_told y → x ≡ y
+unfolding step_told found
+step_told_once (Ok (Some a)) (Ok (Some b)) same = ap found same
+step_told_once (Ok (Some a)) (Ok None) same = cc
+step_told_once (Ok (Some a)) (Err s) same = cc
+step_told_once (Ok None) (Ok (Some b)) same = cc
+step_told_once (Ok None) (Ok None) same = refl
+step_told_once (Ok None) (Err s) same = cc
+step_told_once (Err r) (Ok (Some b)) same = cc
+step_told_once (Err r) (Ok None) same = cc
+step_told_once (Err r) (Err s) same = ap Err (number_once r s cc)
 
 -- each is 01 to 04
 abbrev pub Each : List ℕ → Type 0

@@ -1,30 +1,25 @@
 -- The answer at a cursor by what the line reader and the judging say there: no line, a refused line, or a
 -- line that asks for a step. A found line is the first of the script's lines, and its characters stand for
 -- the frame that is judged. Assumes nothing.
-use Prim.Native.Nat.{ℕ, ◌≤◌, ◌-◌, ◌/◌}
-use mathlib.Core.Path.{◌≡◌, refl, sym, ap, ◌∙◌}
-use mathlib.Core.Bool.{Bool, true, false, ◌&&◌}
-use mathlib.Core.List.{List, [], map}
-use mathlib.Core.Option.{some}
-use native.Mathlib.Omega.{arith}
-use lib.ListN.{length, take, drop, get_or, length-drop}
-use lib.Dec.{leb, eqb}
-use borrow.Author.Tests.{leb-true}
+use Rattle.std.proofs.Common.{ℕ, ◌≤◌, ◌-◌, ◌/◌, ◌≡◌, refl, sym, ap, ◌∙◌, Bool, true, false, ◌&&◌, List, [], map}
+use Rattle.std.proofs.Common.{arith, length, take, drop, get_or, length-drop, leb, eqb, leb-true}
+use Rattle.std.proofs.Math.Option.{some}
 use Rattle.lines.specs.Line.{choose, number, lines, bytes, characters}
+use Rattle.lines.specs.Refusal.{number as number_of}
 use Rattle.lines.specs.code.Characters.{part}
-use Rattle.lines.specs.declared.Line.{Line}
+use Rattle.lines.specs.declared.Refusal.{Refusal}
 use Rattle.lines.specs.declared.Line.TheVariants.{Found, NoLine, End as NoneLeft}
 use Rattle.lines.proofs.Digits.{both}
 use Rattle.lines.proofs.Laws.{not_a_line, none_left}
+use Rattle.lines.proofs.Refusals.{number_not_0}
 use Rattle.desk_lines.specs.DeskLine.{small, desk_form, desk_answer}
 use Rattle.desk_lines.proofs.Laws.{DeskLine, desk_line}
 use Rattle.numbers.specs.code.Numbers.{read_bytes}
 use Rattle.numbers.proofs.Laws.{read_length, desk_read}
-use Rattle.scripts.specs.declared.ScriptStep.{ScriptStep}
-use Rattle.scripts.specs.declared.ScriptStep.TheVariants.{Address, Refused}
+use Rattle.scripts.specs.ScriptStep.{ScriptStep, Address, Refused, End}
 use Rattle.scripts.specs.Script.{most, digits, well_formed, all_digits, in_range, asked, Asked, address}
 use Rattle.scripts.specs.Script.{refused, digits_of, told, answer, left}
-use Rattle.scripts.specs.code.Answers.{without_line, refusal}
+use Rattle.scripts.specs.code.Answers.{refusal}
 
 -- what a frame that asks for a step is
 pub record IsStep (bs : List ℕ) : Type 0 where
@@ -54,13 +49,13 @@ is_step bs z = go (well_formed bs) (in_range (digits bs)) refl refl z
     go false r w q z = absurd (omega arith)
 
 -- a refusal is told by its number
-pub is_refused : (bs : List ℕ) (r : ℕ) → r ≡ refusal (asked (some bs)) → (r ≡ 0 → ⊥)
-    → asked (some bs) ≡ refused r
+pub is_refused : (bs : List ℕ) (r : Refusal) → number_of r ≡ refusal (asked (some bs))
+    → asked (some bs) ≡ refused (number_of r)
 unfolding refusal
-is_refused bs r e h = go (asked (some bs)) e
+is_refused bs r e = go (asked (some bs)) e
   where
-    go : (a : Asked) → r ≡ refusal a → a ≡ refused r
-    go (address ds) e = absurd (h e)
+    go : (a : Asked) → number_of r ≡ refusal a → a ≡ refused (number_of r)
+    go (address ds) e = absurd (number_not_0 r e)
     go (refused n) e = ap refused (sym e)
 
 module _ (s : List ℕ) (at : ℕ) where
@@ -77,15 +72,16 @@ module _ (s : List ℕ) (at : ℕ) where
     pub told : Address (length cs / 2 - 3) n ≡ answer at (lines (drop at s))
     pub stored : left (lines (drop at s)) ≡ digits (read_bytes cs)
 
-  pub no_line : (line : Line) → line ≡ desk_answer at (lines (drop at s)) → ((e n : ℕ) → line ≡ Found e n → ⊥)
-      → NoStep (without_line line)
-  unfolding without_line answer left told asked digits_of
-  no_line (Found e n) q h = absurd (h e n refl)
-  no_line NoLine q h =
-      let l = not_a_line desk_form s at (sym q) in
+  pub no_line : desk_answer at (lines (drop at s)) ≡ NoLine → NoStep (Refused 1)
+  unfolding answer left told asked digits_of
+  no_line q =
+      let l = not_a_line desk_form s at q in
       record { told = rw (l.first, l.broken); bare = rw (l.first, l.broken) }
-  no_line NoneLeft q h =
-      let l = none_left desk_form s at (sym q) in
+
+  pub script_ends : desk_answer at (lines (drop at s)) ≡ NoneLeft → NoStep End
+  unfolding answer left
+  script_ends q =
+      let l = none_left desk_form s at q in
       record { told = rw l; bare = rw l }
 
   -- the line that the finder found
@@ -93,8 +89,8 @@ module _ (s : List ℕ) (at : ℕ) where
     line : DeskLine s at e n
     line = desk_line s at e n found
 
-    -- its characters, and the number that the judging gave them
-    module _ (cs : List ℕ) (own : cs ≡ part s at e) (r : ℕ) (judged : r ≡ refusal (asked (some (read_bytes cs)))) where
+    -- its characters
+    module _ (cs : List ℕ) (own : cs ≡ part s at e) where
       stands : line.held ≡ read_bytes cs
       stands = sym (desk_read cs line.held (ap (λ (x : List ℕ). bytes (map small x)) own ∙ line.stands))
 
@@ -106,17 +102,17 @@ module _ (s : List ℕ) (at : ℕ) where
       unfolding left
       leaves a q = rw (line.first, line.framed, stands, q)
 
-      pub refused_line : (r ≡ 0 → ⊥) → NoStep (Refused r)
+      pub refused_line : (r : Refusal) → number_of r ≡ refusal (asked (some (read_bytes cs))) → NoStep (Refused (number_of r))
       unfolding told digits_of
-      refused_line h =
-          let q = is_refused (read_bytes cs) r judged h in
-          record { told = answered (refused r) q; bare = leaves (refused r) q }
+      refused_line r judged =
+          let q = is_refused (read_bytes cs) r judged in
+          record { told = answered (refused (number_of r)) q; bare = leaves (refused (number_of r)) q }
 
-      pub step_line : r ≡ 0 → StepAt n cs
+      pub step_line : 0 ≡ refusal (asked (some (read_bytes cs))) → StepAt n cs
       unfolding told digits_of
-      step_line z =
+      step_line judged =
           let bs = read_bytes cs in
-          let q = is_step bs (sym z ∙ judged) in
+          let q = is_step bs judged in
           let k : length bs ≡ length cs / 2 = read_length cs in
           let d : length (digits bs) ≡ length cs / 2 - 3 = omega (arith, length-drop 3 bs) in
           record {

@@ -4,8 +4,7 @@ use Rattle.std.specs.Prelude.{ℕ, ◌+◌, Bool, true, ◌&&◌, List, [], ◌�
 use Rattle.std.proofs.Math.Option.{Option, none, some}
 use Rattle.lines.specs.Line.{choose, number, Raw, characters}
 use Rattle.desk_lines.specs.DeskLine.{desk_frame}
-use Rattle.scripts.specs.declared.ScriptStep.{ScriptStep}
-use Rattle.scripts.specs.declared.ScriptStep.TheVariants.{Address, Refused, End}
+use Rattle.scripts.specs.ScriptStep.{ScriptStep, Address, Refused, End}
 
 -- the most digits that an address has
 abbrev pub most : ℕ

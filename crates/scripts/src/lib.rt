@@ -6,12 +6,14 @@ ghost use Rattle.std.specs.Prelude.{◌≡◌, ◌≤◌, length, drop};
 ghost use Rattle.std.proofs.Math.Option.{some};
 ghost use Rattle.std.proofs.lemmas.List.Edits.{sets};
 ghost use Rattle.lines.specs.Line.{lines};
+ghost use Rattle.lines.specs.Refusal.{told};
 ghost use Rattle.numbers.specs.code.Numbers.{read_bytes};
 ghost use Rattle.scripts.specs.Script.{most, digits as behind, all_digits, asked, answer, left};
-ghost use Rattle.scripts.specs.code.Answers.{without_line, refusal};
+ghost use Rattle.scripts.specs.ScriptStep.{step_told};
+ghost use Rattle.scripts.specs.code.Answers.{refusal};
 
 use line_reader::{Spelling, characters, next_line};
-use lines::{Line, NO_LINE, OUT_OF_RANGE, WRONG_FRAME};
+use lines::{Line, Refusal, Span};
 use numbers::{byte, number};
 
 // First byte of a script's frame.
@@ -23,6 +25,7 @@ pub const DIGIT_ROOM: usize = 1024;
 pub const SCRIPT_TEXT_ROOM: usize = 65536;
 
 // The digits of an address, in front of what stood there.
+// An array of its room, with no heap: how many of them count stands beside it.
 pub type Digits = [u8; DIGIT_ROOM];
 
 // How many bytes stand before the digits: `20 llll`.
@@ -33,69 +36,49 @@ const LOWEST: u8 = 1;
 
 const HIGHEST: u8 = 4;
 
-// What the next line of a script asks for: a step, by an address of `count` digits, with the next line from
-// `next` on; the number of the line's refusal; or nothing, at the end of the script.
+// What a line of a script asks for: a step, by an address of `count` digits, with the next line from `next` on.
 #[derive(Clone, Copy)]
-pub enum ScriptStep {
-    Address { count: usize, next: usize },
-    Refused(u8),
-    End,
+pub struct Address {
+    pub count: usize,
+    pub next: usize,
 }
 
-// The next line of a script from a cursor. Its digits go to the front of `digits`; a refusal
-// leaves the array as it was.
-pub fn next_step(text: &[u8], at: usize, digits: &mut Digits) -> ScriptStep
-    ensures value { result ≡ answer at (lines (drop at text.now)) }
+// The next line of a script from a cursor, none at the end of the script. Its digits go to the front of `digits`; a
+// refusal leaves the array as it was.
+pub fn next_step(text: &[u8], at: usize, digits: &mut Digits) -> Result<Option<Address>, Refusal>
+    ensures value { step_told result ≡ answer at (lines (drop at text.now)) }
     ensures digits_after { digits.new
         ≡ sets digits.old 0 (left (lines (drop at text.now))) }
 {
-    let line = next_line(text, at, Spelling::Desk);
-    let Line::Found { end, next } = line else {
-        return no_step(line);
+    let Span { end, next } = match next_line(text, at, Spelling::Desk) {
+        Line::Found { end, next } => Span { end, next },
+        Line::NoLine => return Err(Refusal::NotALine),
+        Line::End => return Ok(None),
     };
     let chars = characters(text, at, end);
-    let refused = judge(chars);
-    if refused != 0 {
-        return ScriptStep::Refused(refused);
-    }
+    judge(chars)?;
     let count = chars.len() / 2 - HEAD;
     write_digits(chars, count, digits);
-    ScriptStep::Address { count, next }
+    Ok(Some(Address { count, next }))
 }
 
-// The answer where no line stands at the cursor.
-fn no_step(line: Line) -> ScriptStep
-    ensures { result ≡ without_line line }
-{
-    match line {
-        Line::Found { end: _, next: _ } => ScriptStep::End,
-        Line::NoLine => ScriptStep::Refused(NO_LINE),
-        Line::End => ScriptStep::End,
-    }
-}
-
-// The number of the refusal of a line by its characters, 0 where it asks for a step.
-fn judge(chars: &[u8]) -> u8
-    ensures { result ≡ refusal (asked (some (read_bytes chars.now))) }
+// Whether a line asks for a step, by its characters; else its refusal.
+fn judge(chars: &[u8]) -> Result<(), Refusal>
+    ensures { told result ≡ refusal (asked (some (read_bytes chars.now))) }
 {
     let n = chars.len() / 2;
-    if n < HEAD {
-        return WRONG_FRAME;
-    }
-    if byte(chars, 0) != STEP_FRAME {
-        return WRONG_FRAME;
+    if n < HEAD || byte(chars, 0) != STEP_FRAME {
+        return Err(Refusal::WrongFrame);
     }
     let count = n - HEAD;
+    // No `From` makes a usize a u64.
     if number(&chars[2..6]) != count as u64 {
-        return WRONG_FRAME;
+        return Err(Refusal::WrongFrame);
     }
-    if DIGIT_ROOM < count {
-        return OUT_OF_RANGE;
+    if DIGIT_ROOM < count || !digits_fit(chars) {
+        return Err(Refusal::OutOfRange);
     }
-    if !digits_fit(chars) {
-        return OUT_OF_RANGE;
-    }
-    0
+    Ok(())
 }
 
 // Whether each byte behind `20 llll` is a digit of an address.
@@ -103,16 +86,10 @@ fn digits_fit(chars: &[u8]) -> bool
     ensures { result ≡ all_digits (behind (read_bytes chars.now)) }
 {
     let n = chars.len() / 2;
-    let mut k = HEAD;
-    while k < n {
-        let digit = byte(chars, k);
-        if digit < LOWEST {
+    for k in HEAD..n {
+        if !(LOWEST..=HIGHEST).contains(&byte(chars, k)) {
             return false;
         }
-        if HIGHEST < digit {
-            return false;
-        }
-        k += 1;
     }
     true
 }
@@ -123,9 +100,7 @@ fn write_digits(chars: &[u8], count: usize, digits: &mut Digits)
     ensures { digits.new
         ≡ sets digits.old 0 (behind (read_bytes chars.now)) }
 {
-    let mut i = 0;
-    while i < count {
+    for i in 0..count {
         digits[i] = byte(chars, i + HEAD);
-        i += 1;
     }
 }

@@ -1,15 +1,10 @@
 -- A set of events by its members: its number is below 2 to the power e exactly when each of its events is below
 -- e. A bit from e on needs a number that large, and such a number has its highest bit there. Over any width.
 -- Assumes nothing.
-use Prim.Native.Nat.{ℕ, zero, suc, ◌+◌, ◌*◌, ◌/◌, ◌%◌, ◌^◌, ◌≤◌, ◌<◌}
-use mathlib.Core.Path.{◌≡◌, refl, ap}
-use mathlib.Core.Bool.{Bool, true, false}
-use mathlib.Core.Logic.{◌↔◌}
-use native.Mathlib.Omega.{arith}
-use native.Mathlib.Nat.{div-eq_of_lt, div-eq_of_lt-le, two-pow-succ, add-zero, add-suc}
-use lib.Pow.{pow_mono}
-use lib.Dec.{leb}
-use borrow.Author.Tests.{eqb-true, eq-eqb, leb-true, leb-false}
+use Rattle.std.proofs.Common.{ℕ, zero, suc, ◌+◌, ◌*◌, ◌/◌, ◌%◌, ◌^◌, ◌≤◌, ◌<◌, ◌≡◌, refl, ap, Bool, true}
+use Rattle.std.proofs.Common.{false, ◌↔◌, arith, add-zero, add-suc, pow_mono, leb, eqb-true, eq-eqb}
+use Rattle.std.proofs.Common.{leb-true, leb-false}
+use native.Mathlib.Nat.{div-eq_of_lt, div-eq_of_lt-le, two-pow-succ}
 use Rattle.sets.specs.EventSet.{member}
 
 -- a bit that is set is below the width

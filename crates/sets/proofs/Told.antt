@@ -1,14 +1,11 @@
 -- Sets by their members alone. Two numbers with the same bits are equal, by induction on the bits, so what is
 -- told of a set by its members allows one set only; and a number that is not 0 has a bit, found the same way.
 -- Over any width. Assumes nothing.
-use Prim.Native.Nat.{ℕ, suc, ◌/◌, ◌%◌}
-use mathlib.Core.Path.{◌≡◌, refl, sym, ◌∙◌}
-use mathlib.Core.Bool.{Bool, true, false, ◌&&◌, ◌||◌, xor, true≢false, false≢true}
-use native.Mathlib.Omega.{arith}
+use Rattle.std.proofs.Common.{ℕ, suc, ◌/◌, ◌%◌, ◌≡◌, refl, sym, ◌∙◌, Bool, true, false, ◌&&◌, ◌||◌}
+use Rattle.std.proofs.Common.{true≢false, arith, bit_and, bit_or, bit_xor, eqb, eqb-true, ne_eqb}
+use mathlib.Core.Bool.{xor, false≢true}
 use lib.Arith.{bin_ind}
-use lib.Bits.{bit_and, bit_or, bit_xor}
-use lib.Dec.{eqb}
-use borrow.Author.Tests.{eqb-true, eqb-false, ne_eqb}
+use borrow.Author.Tests.{eqb-false}
 use Rattle.lines.specs.Line.{choose}
 use Rattle.sets.specs.EventSet.{member}
 use Rattle.sets.proofs.Members.{set_within}

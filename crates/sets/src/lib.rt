@@ -13,20 +13,22 @@ use frames::MOST_EVENTS;
 pub fn has(set: u64, event: u8) -> bool
     ensures { result ≡ member event set }
 {
-    if MOST_EVENTS <= event {
-        return false;
+    if event < MOST_EVENTS {
+        (set >> event) % 2 == 1
+    } else {
+        false
     }
-    (set >> event) % 2 == 1
 }
 
 // The set of one event; of none where the event is past those that there may be.
 pub fn only(event: u8) -> u64
     ensures { SetOf (λ k. ltb event event_room && eqb k event) result }
 {
-    if MOST_EVENTS <= event {
-        return 0;
+    if event < MOST_EVENTS {
+        1u64 << event
+    } else {
+        0
     }
-    1u64 << event
 }
 
 // The events of either set.

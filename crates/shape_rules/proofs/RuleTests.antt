@@ -1,15 +1,10 @@
--- The reader's rules, as they are tested. A rule of every item is tested from the first item on: as long as all have passed,
--- what is left tells the whole, so the first that fails settles it, and with none left all have passed. That pairs ascend is
--- tested likewise, of each pair and the one before it. Assumes nothing.
-use Prim.Native.Nat.{ℕ, zero, suc, ◌+◌, ◌*◌, ◌-◌, ◌≤◌, ◌<◌}
-use mathlib.Core.Path.{◌≡◌, refl, sym, ◌∙◌}
-use mathlib.Core.Bool.{Bool, true, false, ◌&&◌, ◌||◌, and-false}
-use mathlib.Core.List.{List, [], ◌∷◌}
-use native.Mathlib.Omega.{arith}
-use native.Mathlib.Nat.{sub-zero}
-use native.Mathlib.Numerals.{add-one}
-use lib.Dec.{ltb, eqb}
-use borrow.Author.Tests.{eq-eqb, ne_eqb}
+-- The reader's rules, as they are tested. A test of numbers from one on, as std's `all` tells it of a range, is a test of what
+-- stands at each: of every pair, or of every pair and the one before it. Assumes nothing.
+use Rattle.std.proofs.Common.{ℕ, zero, suc, ◌+◌, ◌*◌, ◌-◌, ◌≡◌, refl, sym, ◌∙◌, Bool, true, false, ◌&&◌, ◌||◌, cond, List}
+use Rattle.std.proofs.Common.{[], ◌∷◌, Some, Less, Equal, Greater, arith, add-one, ltb, eqb}
+use Rattle.std.specs.List.{list_all, range_with_len}
+use Rattle.std.specs.Ordering.{nat_cmp, as_partial_cmp, partial_lt, partial_ordering_then, is_lt, is_some_and}
+use mathlib.Core.Bool.{and-false}
 use Rattle.control.specs.words.Words.{track_word}
 use Rattle.rules.specs.Track.{Pair, pair}
 use Rattle.control.specs.words.Views.{pairs}
@@ -17,84 +12,16 @@ use Rattle.graphs.specs.Shape.{every, before, before_first, ascends, upward, fro
 use Rattle.links.specs.words.Columns.{at}
 use Rattle.shape_rules.specs.code.Tests.{one_event}
 
--- rules one behind the other: one that is not met settles it, and one that is met leaves it to the rest
-pub rule_broken : {rule : Bool} (rest : Bool) → rule ≡ false → false ≡ (rule && rest)
-rule_broken rest h = rw h
-
-pub rule_met : {rule rest answer : Bool} → rule ≡ true → answer ≡ rest → answer ≡ (rule && rest)
-rule_met h e = rw h e
-
--- and the rest may be taken where it is met
+-- the rest of some rules may be taken where the first is met
 pub and_where : {b c : Bool} (a : Bool) → (a ≡ true → b ≡ c) → a && b ≡ a && c
 and_where true h = h refl
 and_where false h = refl
 
--- an answer that was negated
-module _ {answer rule : Bool} (told : answer ≡ rule) where
-  pub told_broken : answer ≡ false → rule ≡ false
-  told_broken h = sym told ∙ h
-
-  pub told_met : answer ≡ true → rule ≡ true
-  told_met h = sym told ∙ h
-
--- a word that was compared
-module _ {m x : ℕ} (told : m ≡ x) (v : ℕ) where
-  pub told_equal : m ≡ v → eqb x v ≡ true
-  told_equal h = rw (← told) (eq-eqb m v h)
-
-  pub told_other : (m ≡ v → ⊥) → eqb x v ≡ false
-  told_other h = rw (← told) (ne_eqb m v h)
-
--- items by their numbers, and so many of them from a number on
-pub record Listing {A : Type 0} (item : ℕ → A) (some_from : ℕ → ℕ → List A) : Type 0 where
-  pub none_left : (i : ℕ) → some_from i 0 ≡ []
-  pub one_more : (i c : ℕ) → some_from i (suc c) ≡ item i ∷ some_from (suc i) c
-
--- numbers are their own items
-pub numbers_listed : Listing (λ k. k) from_on
-unfolding from_on
-numbers_listed = record { none_left = λ i. refl; one_more = λ i c. refl }
-
--- a pair of those that stand from a word on
-abbrev pair_from : ℕ → List ℕ → ℕ → Pair
-pair_from base w i = pair (track_word w (base + 2 * i)) (track_word w (base + 2 * i + 1))
-
-pub pairs_listed : (base : ℕ) (w : List ℕ) → Listing (pair_from base w) (pairs base w)
-unfolding pairs
-pairs_listed base w = record { none_left = λ i. refl; one_more = λ i c. refl }
-
-module _ {A : Type 0} {item : ℕ → A} {some_from : ℕ → ℕ → List A} (l : Listing item some_from) (c i : ℕ) where
-  -- the next of c items, and none where all were taken
-  next_left : i < c → some_from i (c - i) ≡ item i ∷ some_from (suc i) (c - suc i)
-  next_left h =
-      let more : c - i ≡ suc (c - suc i) = omega arith in
-      rw more (l.one_more i (c - suc i))
-
-  over : c ≤ i → some_from i (c - i) ≡ []
-  over h = let none : c - i ≡ 0 = omega arith in rw none (l.none_left i)
-
--- all of c items passed a test so far, up to number i
-abbrev pub Passed : {A : Type 0} → (A → Bool) → (ℕ → ℕ → List A) → ℕ → ℕ → Type 0
-Passed t some_from c i = every t (some_from 0 c) ≡ every t (some_from i (c - i))
-
--- at first
-pub none_tested : {A : Type 0} (t : A → Bool) (some_from : ℕ → ℕ → List A) (c : ℕ) → Passed t some_from c 0
-none_tested t some_from c = rw (sub-zero c)
-
-module _ {A : Type 0} (t : A → Bool) {item : ℕ → A} {some_from : ℕ → ℕ → List A} (l : Listing item some_from)
-    (c i : ℕ) (passed : Passed t some_from c i) where
-  -- one more passes, one fails, or none is left
-  pub test_passed : i < c → t (item i) ≡ true → Passed t some_from c (i + 1)
-  unfolding every
-  test_passed h e = passed ∙ rw (next_left l c i h, e, add-one i)
-
-  pub test_failed : i < c → t (item i) ≡ false → false ≡ every t (some_from 0 c)
-  unfolding every
-  test_failed h e = sym (passed ∙ rw (next_left l c i h, e))
-
-  pub all_passed : c ≤ i → true ≡ every t (some_from 0 c)
-  unfolding every
-  all_passed h = sym (passed ∙ rw (over l c i h))
+-- a test of all numbers from one on
+pub every_ranged : (t : ℕ → Bool) (k n : ℕ) → list_all t (range_with_len k n) ≡ every t (from_on k n)
+unfolding every from_on
+every_ranged t k zero = refl
+every_ranged t k (suc n) = rw (add-one k, every_ranged t (suc k) n)
 
 -- two tests of every item are one test
 pub every_both : {A : Type 0} (t u : A → Bool) (xs : List A)
@@ -109,68 +36,57 @@ every_both t u (x ∷ xs) = go (t x) (u x) (every_both t u xs)
     go true false e = sym (and-false (every t xs))
     go false b e = refl
 
--- a pair in front of others
-ascends_next : (a b : Pair) (as' bs : List Pair) → as' ≡ b ∷ bs → ascends (a ∷ as') ≡ (before a b && ascends as')
-unfolding ascends before_first
-ascends_next a b as' bs e = rw e
+module _ (base : ℕ) (w : List ℕ) where
+  -- a pair of those that stand from a word on
+  abbrev pub pair_from : ℕ → Pair
+  pair_from i = pair (track_word w (base + 2 * i)) (track_word w (base + 2 * i + 1))
 
-module _ (base : ℕ) (w : List ℕ) (c : ℕ) where
-  -- c pairs ascend so far, up to number i
-  abbrev pub Ascended : ℕ → Type 0
-  Ascended i = (1 ≤ i) × (ascends (pairs base w 0 c) ≡ ascends (pairs base w (i - 1) (c - (i - 1))))
+  -- a test of every pair
+  every_pair : (t : Pair → Bool) (i c : ℕ) → every (λ k. t (pair_from k)) (from_on i c) ≡ every t (pairs base w i c)
+  unfolding every from_on pairs
+  every_pair t i zero = refl
+  every_pair t i (suc c) = rw (every_pair t (suc i) c)
 
-  -- one pair ascends
-  pub none_compared : Ascended 1
-  none_compared = (omega arith, rw (sub-zero c))
+  -- a pair is behind the one before it
+  abbrev pub behind_last : ℕ → Bool
+  behind_last i = before (pair (track_word w (base + 2 * i - 2)) (track_word w (base + 2 * i - 1))) (pair_from i)
 
-  -- the next one is compared with the one before it
-  compared : (j : ℕ) → suc j < c
-      → ascends (pairs base w j (c - j))
-      ≡ (before (pair_from base w j) (pair_from base w (suc j)) && ascends (pairs base w (suc j) (c - suc j)))
-  compared j h =
-      rw (next_left (pairs_listed base w) c j (omega arith))
-      (ascends_next (pair_from base w j) (pair_from base w (suc j)) _ _
-      (next_left (pairs_listed base w) c (suc j) h))
+  -- so pairs ascend, from the first on
+  ascends_from : (i c : ℕ) → every behind_last (from_on (suc i) c) ≡ ascends (pairs base w i (suc c))
+  unfolding every from_on pairs ascends before_first
+  ascends_from i zero = refl
+  ascends_from i (suc c) =
+      let one : base + 2 * suc i - 2 ≡ base + 2 * i = omega arith in
+      let two : base + 2 * suc i - 1 ≡ base + 2 * i + 1 = omega arith in
+      rw (one, two, ascends_from (suc i) c)
 
-  module _ (i : ℕ) (so_far : Ascended i) where
-    -- with fewer than two left, all ascend
-    pub all_ascend : c ≤ i → true ≡ ascends (pairs base w 0 c)
-    unfolding ascends before_first pairs
-    all_ascend h = sym (so_far.1 ∙ go (c - (i - 1)) (omega arith))
-      where
-        go : (k : ℕ) → k ≤ 1 → ascends (pairs base w (i - 1) k) ≡ true
-        go zero m = refl
-        go (suc zero) m = refl
-        go (suc (suc k)) m = absurd (omega arith)
+  pub all_ascend : (c : ℕ) → every behind_last (from_on 1 (c - 1)) ≡ ascends (pairs base w 0 c)
+  unfolding every from_on pairs ascends
+  all_ascend zero = refl
+  all_ascend (suc c) = let less : suc c - 1 ≡ c = omega arith in rw less (ascends_from 0 c)
 
-    -- a pair, and the one before it
-    module _ (h : i < c) {f p q s : ℕ} (f_is : f ≡ track_word w (base + 2 * i))
-        (p_is : p ≡ track_word w (base + 2 * i - 2)) (q_is : q ≡ track_word w (base + 2 * i - 1))
-        (s_is : s ≡ track_word w (base + 2 * i + 1)) where
-      -- by the words of both
-      both_words : ascends (pairs base w 0 c)
-          ≡ ((ltb p f || (eqb p f && ltb q s)) && ascends (pairs base w i (c - i)))
-      unfolding before
-      both_words =
-          let low : base + 2 * (i - 1) ≡ base + 2 * i - 2 = omega arith in
-          let high : base + 2 * (i - 1) + 1 ≡ base + 2 * i - 1 = omega arith in
-          let next : suc (i - 1) ≡ i = omega arith in
-          let turn = rw (high, low, next) at (compared (i - 1) (omega arith)) in
-          so_far.1 ∙ turn ∙ rw (f_is, p_is, q_is, s_is)
+  -- the test of a meeting: it is of one event, where its first number is the lower
+  module _ (ps ms : List ℕ) where
+    abbrev pub meets_well : Pair → Bool
+    meets_well a = ltb a.from a.to && one_event ps (at ms a.from) (at ms a.to)
 
-      pub pair_falls : (ltb p f || (eqb p f && ltb q s)) ≡ false → false ≡ ascends (pairs base w 0 c)
-      pair_falls l = sym (both_words ∙ rw l)
+    pub all_meet : (c : ℕ) → every (λ i. meets_well (pair_from i)) (from_on 0 c)
+        ≡ (every upward (pairs base w 0 c) && every (λ a. one_event ps (at ms a.from) (at ms a.to)) (pairs base w 0 c))
+    unfolding upward
+    all_meet c = every_pair meets_well 0 c ∙ every_both upward _ (pairs base w 0 c)
 
-      pub pair_rises : (ltb p f || (eqb p f && ltb q s)) ≡ true → Ascended (i + 1)
-      pair_rises l =
-          let same : i + 1 - 1 ≡ i = omega arith in
-          (omega arith, rw same (both_words ∙ rw l))
-
--- the test of a meeting: it is of one event, where its first number is the lower
-abbrev pub meets_well : List ℕ → List ℕ → Pair → Bool
-meets_well ps ms a = upward a && one_event ps (at ms a.from) (at ms a.to)
-
-pub meeting_told : (ps ms : List ℕ) {x y f s m n : ℕ} {one : Bool} → f ≡ x → s ≡ y → m ≡ at ms f → n ≡ at ms s
-    → one ≡ one_event ps m n → (ltb f s && one) ≡ meets_well ps ms (pair x y)
-unfolding upward
-meeting_told ps ms f_is s_is m_is n_is told = rw (← f_is, ← s_is, ← m_is, ← n_is, told)
+-- pairs of numbers, as std compares them
+pub pair_before : (a b c d : ℕ)
+    → partial_lt (λ (x y : ℕ × ℕ). partial_ordering_then (as_partial_cmp nat_cmp x.0 y.0) (as_partial_cmp nat_cmp x.1 y.1)) (a, b) (c, d)
+    ≡ before (pair a b) (pair c d)
+unfolding before
+pair_before a b c d = go (ltb a c) (eqb a c) (ltb b d) (eqb b d)
+  where
+    go : (l e m f : Bool)
+        → is_some_and is_lt (partial_ordering_then (Some (cond l Less (cond e Equal Greater)))
+        (Some (cond m Less (cond f Equal Greater)))) ≡ l || (e && m)
+    go true e m f = refl
+    go false true true f = refl
+    go false true false true = refl
+    go false true false false = refl
+    go false false m f = refl

@@ -19,28 +19,14 @@ use marks::{is_event, term_of};
 pub fn in_order(nodes: usize, numbers: &Column) -> bool
     ensures { result ≡ every (λ k. eqb (at numbers.now k) (k + 1)) (from_on 0 nodes) }
 {
-    let mut k: usize = 0;
-    while k < nodes {
-        if reference_word(k, numbers) != k + 1 {
-            return false;
-        }
-        k += 1;
-    }
-    true
+    (0..nodes).all(|k| reference_word(k, numbers) == k + 1)
 }
 
 // Whether each node has a mark.
 pub fn all_marked(nodes: usize, labels: &Column) -> bool
     ensures { result ≡ of.all_marked labels.now nodes }
 {
-    let mut k: usize = 0;
-    while k < nodes {
-        if reference_word(k, labels) == 0 {
-            return false;
-        }
-        k += 1;
-    }
-    true
+    (0..nodes).all(|k| reference_word(k, labels) != 0)
 }
 
 // Whether so many pairs, from a word on, ascend by their first number, then their second.
@@ -48,18 +34,12 @@ pub fn ascend(base: usize, count: usize, graph: &Track) -> bool
     requires { (base ≤ meetings_from) × (count ≤ arc_room) }
     ensures { result ≡ ascends (pairs base graph.now 0 count) }
 {
-    let mut i: usize = 1;
-    while i < count {
+    (1..count).all(|i| {
         let at = base + 2 * i;
-        let first = track_word(at, graph);
-        let before = track_word(at - 2, graph);
-        let second_rises = track_word(at - 1, graph) < track_word(at + 1, graph);
-        if !((before < first) | ((before == first) & second_rises)) {
-            return false;
-        }
-        i += 1;
-    }
-    true
+        let before = (track_word(at - 2, graph), track_word(at - 1, graph));
+        let pair = (track_word(at, graph), track_word(at + 1, graph));
+        before < pair
+    })
 }
 
 // Whether so many meetings join event nodes of one event, the lower number first.
@@ -68,33 +48,21 @@ pub fn join_events(meetings: usize, labels: &Column, graph: &Track, payloads: &P
     ensures { result ≡ of.meetings_fit payloads.now labels.now
         (meetings_of graph.now meetings) }
 {
-    let mut i: usize = 0;
-    while i < meetings {
+    (0..meetings).all(|i| {
         let at = MEETINGS_FROM + 2 * i;
         let first = track_word(at, graph);
         let second = track_word(at + 1, graph);
-        let one = of_one_event(
-            reference_word(first, labels),
-            reference_word(second, labels),
-            payloads,
-        );
-        if !((first < second) & one) {
-            return false;
-        }
-        i += 1;
-    }
-    true
+        let one = reference_word(first, labels);
+        let other = reference_word(second, labels);
+        first < second && of_one_event(one, other, payloads)
+    })
 }
 
 // Whether two marks are of events, and of one.
 fn of_one_event(first: usize, second: usize, payloads: &Payloads) -> bool
     ensures { result ≡ of.one_event payloads.now first second }
 {
-    if !is_event(first) {
-        return false;
-    }
-    if !is_event(second) {
-        return false;
-    }
-    payload_of(term_of(first), payloads) == payload_of(term_of(second), payloads)
+    is_event(first)
+        && is_event(second)
+        && payload_of(term_of(first), payloads) == payload_of(term_of(second), payloads)
 }

@@ -1,16 +1,9 @@
 -- Distinct references get their numbers in order: the one at number i gets i + 1. So if each number below n has one more than
 -- itself, and n references got numbers, reference i stands at number i; and the other way round. Assumes nothing.
-use Prim.Native.Nat.{ℕ, zero, suc, ◌+◌, ◌≤◌, ◌<◌}
-use mathlib.Core.Path.{◌≡◌, refl, sym, ap, ◌∙◌}
-use mathlib.Core.Bool.{Bool, true, false, ◌&&◌}
-use mathlib.Core.List.{List, [], ◌∷◌}
-use native.Mathlib.Omega.{arith}
-use native.Mathlib.Nat.{add-zero, zero-add, add-suc, suc-add}
-use native.Mathlib.Numerals.{add-one}
-use lib.ListN.{length, get_or, set, replicate, length-set, length-replicate}
-use lib.Seq.{get_or-set_same, get_or-set_other, ext_get_or}
-use lib.Dec.{eqb}
-use borrow.Author.Tests.{eqb-true, eq-eqb}
+use Rattle.std.proofs.Common.{ℕ, zero, suc, ◌+◌, ◌≤◌, ◌<◌, ◌≡◌, refl, sym, ap, ◌∙◌, Bool, true, false, ◌&&◌, List, [], ◌∷◌}
+use Rattle.std.proofs.Common.{arith, add-zero, zero-add, add-suc, suc-add, add-one, length, get_or, set, replicate}
+use Rattle.std.proofs.Common.{length-set, get_or-set_same, get_or-set_other, ext_get_or, eqb, eqb-true, eq-eqb}
+use lib.ListN.{length-replicate}
 use Rattle.lines.proofs.Digits.{both}
 use Rattle.columns.proofs.Laws.{look_in}
 use Rattle.control.specs.words.Words.{reference_room}

@@ -9,7 +9,7 @@ ghost use Rattle.links.specs.code.Linked.{side_words};
 
 use columns::{After, Kinds, Payloads};
 use control::{MEETINGS_FROM, REFERENCES, Track};
-use links::{Column, SIDE_WORDS, SideWords, at_most, link};
+use links::{Column, SIDE_WORDS, SideWords, link};
 use rules::{ARC_ROOM, MEETING_ROOM};
 use shape_rules::{all_marked, ascend, in_order, join_events};
 use walks::walk;
@@ -43,9 +43,9 @@ pub fn has_shape(
     *sides = [0u16; SIDE_WORDS];
     *numbers = [0u16; REFERENCES];
     *walked = [0u16; REFERENCES];
-    let count = at_most(meetings, MEETING_ROOM);
+    let count = meetings.min(MEETING_ROOM);
     all_marked(nodes, labels)
-        & ascend(0, at_most(arcs, ARC_ROOM), graph)
+        & ascend(0, arcs.min(ARC_ROOM), graph)
         & fits
         & (reached == nodes)
         & ordered

@@ -1,12 +1,12 @@
 -- Characters put into a slice, one run behind another, are put as one run. So what is to be put splits at any
 -- cursor: what was put in front, and what is owed behind it, and nothing is owed at the end. Assumes nothing.
 use Prim.Native.Nat.{ℕ, suc, ◌+◌}
-use mathlib.Core.Path.{◌≡◌, refl, sym, ap, ◌∙◌}
+use mathlib.Core.Path.{◌≡◌, refl, ◌∙◌}
 use mathlib.Core.List.{List, [], ◌∷◌, ◌++◌}
 use native.Mathlib.Omega.{arith}
 use native.Mathlib.Numerals.{add-one}
 use lib.ListN.{length, set, length-append}
-use lib.Seq.{sets, length-sets}
+use lib.Seq.{sets}
 use Rattle.spelling.specs.words.Puts.{Puts}
 
 -- characters behind others are one run with them
@@ -47,7 +47,3 @@ owed_less {t = t} {b = b} {ys = ys} {zs = zs} o p = record {
 -- none, where all is put
 pub owed_none : {xs s t : List ℕ} {a b : ℕ} → Owed xs a s [] b t → Puts a xs s t b
 owed_none o = record { ends = omega (arith, o.lengths); stands = o.same }
-
--- a slice keeps its length
-pub owed_length : {xs s ys t : List ℕ} {a b : ℕ} → Owed xs a s ys b t → length t ≡ length s
-owed_length {xs} {s} {ys} {t} {a} {b} o = sym (length-sets t b ys) ∙ ap length o.same ∙ length-sets s a xs

@@ -41,6 +41,7 @@ pub fn put_end(at: usize, out: &mut [u8]) -> usize
 fn put(at: usize, c: u8, out: &mut [u8])
     ensures { out.new ≡ set out.old at c }
 {
+    // A slice's `get_mut` tells a proof nothing of the elements once its borrow is over.
     if at < out.len() {
         out[at] = c;
     }
@@ -51,5 +52,5 @@ fn digit_of(d: u8) -> u8
     requires { d < 16 }
     ensures { result ≡ character d }
 {
-    if d < 10 { d + 48 } else { d + 87 }
+    if d < 10 { b'0' + d } else { b'a' + d - 10 }
 }

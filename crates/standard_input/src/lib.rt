@@ -16,6 +16,7 @@ pub fn read_full<R: Read>(reader: &mut R, room: &mut [u8]) -> io::Result<usize>
     ensures end { IfOk result (λ n. n < length room.new → IsAtEnd (R.remaining reader.new)) }
 {
     let mut count = 0;
+    // No plainer form: `count` is what the reads gave, and each read begins behind it.
     while count < room.len() {
         let more = reader.read(&mut room[count..])?;
         if more == 0 {

@@ -1,11 +1,6 @@
 -- What the status is at each test: one law a return, over plain variables. Assumes nothing.
-use Prim.Native.Nat.{ℕ, zero, suc, ◌^◌, ◌<◌}
-use mathlib.Core.Path.{◌≡◌, refl}
-use mathlib.Core.Bool.{Bool, true, false, ◌||◌}
-use mathlib.Core.List.{List}
-use native.Mathlib.Omega.{arith}
-use lib.Dec.{eqb}
-use borrow.Author.Tests.{eqb-true, eqb-false}
+use Rattle.std.proofs.Common.{ℕ, zero, suc, ◌^◌, ◌<◌, ◌≡◌, refl, Bool, true, false, ◌||◌, List, arith, eqb, eqb-true}
+use borrow.Author.Tests.{eqb-false}
 use Rattle.frames.specs.TableFrame.{event_room}
 use Rattle.sets.specs.EventSet.{member}
 use Rattle.sets.proofs.Members.{set_within}

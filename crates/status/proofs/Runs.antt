@@ -1,12 +1,8 @@
 -- What is told of a run's status is what document 02's W2 says of its control, by its offers. Past the count of a table's
 -- events nothing is offered, so a search through all that there may be finds the same. Assumes nothing.
-use Prim.Native.Nat.{ℕ, zero, suc, ◌≤◌, ◌<◌}
-use mathlib.Core.Path.{◌≡◌, refl, ap, ◌∙◌}
-use mathlib.Core.Bool.{Bool, true, false, ◌||◌}
-use mathlib.Core.List.{List}
-use native.Mathlib.Omega.{arith}
-use lib.Dec.{eqb}
-use borrow.Author.Tests.{eqb-true, eqb-false}
+use Rattle.std.proofs.Common.{ℕ, zero, suc, ◌≤◌, ◌<◌, ◌≡◌, refl, ap, ◌∙◌, Bool, true, false, ◌||◌, List, arith, eqb}
+use Rattle.std.proofs.Common.{eqb-true}
+use borrow.Author.Tests.{eqb-false}
 use Rattle.lines.specs.Judging.{accepted}
 use Rattle.frames.specs.TableFrame.{event_room}
 use Rattle.tables.specs.Table.{Sofar, judged}

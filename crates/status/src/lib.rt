@@ -23,14 +23,8 @@ pub fn status_at(reference: usize, plan: &Plan, sets: &Payloads, nodes: &Nodes) 
         return Status::Ended;
     }
     let offered = offers(reference, plan, sets, nodes);
-    if offered.plain {
+    if offered.plain || offered.tick || !empty(offered.events) {
         return Status::Live;
     }
-    if offered.tick {
-        return Status::Live;
-    }
-    if empty(offered.events) {
-        return Status::Stuck;
-    }
-    Status::Live
+    Status::Stuck
 }

@@ -7,8 +7,8 @@ use Rattle.columns.specs.words.Columns.{Columns}
 use Rattle.tables.specs.Table.{Sofar}
 use Rattle.tables.specs.words.Columns.{with_columns, outcome}
 use Rattle.tables.specs.declared.TableCounts.{TableCounts}
-use Rattle.tables.specs.declared.Checked.{Checked}
-use Rattle.tables.specs.declared.Checked.TheVariants as Table
+use Rattle.tables.specs.Checked.{Checked}
+use Rattle.tables.specs.Checked as Table
 use Rattle.plans.specs.code.Laid.{laid_out}
 use Rattle.answers.specs.Numbers as told
 use Rattle.answers.specs.words.Blocks.{table_stamp}

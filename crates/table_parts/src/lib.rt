@@ -6,10 +6,10 @@ ghost use Rattle.tables.specs.Table.{judged};
 ghost use Rattle.columns.specs.words.Columns.{all_columns};
 ghost use Rattle.table_parts.specs.code.TableTold as host;
 
-use answers::{DONE, Head, TABLE_STAMP, line_of_checked, of_checked};
+use answers::{DONE, Head, TABLE_STAMP, line_of, of_judged};
 use columns::{After, Kinds, Owners, Payloads, Roots};
 use plans::{Plan, lay_out};
-use tables::{Checked, check};
+use tables::check;
 
 // Checks a table's text, and fills a table's block with it and its plan; or tells the refusal and its line.
 pub fn check_parts<'s, 'n, 'b>(
@@ -30,9 +30,9 @@ pub fn check_parts<'s, 'n, 'b>(
         (judged text.now) }
 {
     let checked = check(text, kinds, payloads, owners, after, roots);
-    *line = line_of_checked(checked);
-    let Checked::Accepted(counts) = checked else {
-        return of_checked(checked);
+    *line = line_of(checked);
+    let Ok(counts) = checked else {
+        return of_judged(checked);
     };
     lay_out(counts.terms, kinds, payloads, after, roots, plan);
     *head = [TABLE_STAMP, counts.definitions, counts.events, counts.terms];

@@ -1,10 +1,7 @@
 -- Tables judged by computation: document 01's case A is accepted with its counts, and for each
 -- number of refusal from 1 to 5 a text meets it at its line, the lowest where several hold. One
 -- statement for all. Assumes nothing.
-use Prim.Native.Nat.{ℕ, ◌+◌}
-use mathlib.Core.Path.{◌≡◌, refl}
-use mathlib.Core.List.{List, [], ◌∷◌, ◌++◌, map}
-use lib.ListN.{replicate}
+use Rattle.std.proofs.Common.{ℕ, ◌+◌, ◌≡◌, refl, List, [], ◌∷◌, ◌++◌, map, replicate}
 use Rattle.lines.specs.Line.{character, hex, text, digit, before, lines, pair, bytes, frame, characters}
 use Rattle.lines.specs.Line.{number_from}
 use Rattle.lines.specs.Judging.{at_end, at_line, judged_from}
@@ -13,8 +10,7 @@ use Rattle.kinds.specs.Kind.{known, payload_bytes, subterms}
 use Rattle.frames.specs.TableFrame.{frame_of, limit, longest, refusal, first_refusal, closes}
 use Rattle.tables.specs.Table.{next_due, seen, taken, whole_at, number_met, stage_behind, judged}
 use Rattle.tables.specs.words.Columns.{answer}
-use Rattle.tables.specs.declared.Checked.{Checked}
-use Rattle.tables.specs.declared.Checked.TheVariants.{Accepted, Refused}
+use Rattle.tables.specs.Checked.{Checked, Accepted, Refused}
 
 -- the frames that the texts are made of
 opening : List ℕ

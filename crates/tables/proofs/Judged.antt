@@ -1,13 +1,7 @@
 -- The judging of a table's lines a line at a time, by what is said of the line at the cursor. Assumes nothing.
-use Prim.Native.Nat.{ℕ, ◌+◌, ◌≤◌, ◌<◌}
-use mathlib.Core.Path.{◌≡◌, refl, sym, ap, ◌∙◌}
-use mathlib.Core.Bool.{Bool, true, false}
-use mathlib.Core.List.{List, [], ◌∷◌}
-use mathlib.Core.Option.{Option, none, some}
-use native.Mathlib.Omega.{arith}
-use lib.ListN.{length, drop}
-use lib.Dec.{eqb}
-use borrow.Author.Tests.{eqb-true}
+use Rattle.std.proofs.Common.{ℕ, ◌+◌, ◌≤◌, ◌<◌, ◌≡◌, refl, sym, ap, ◌∙◌, Bool, true, false, List, [], ◌∷◌}
+use Rattle.std.proofs.Common.{arith, length, drop, eqb, eqb-true}
+use Rattle.std.proofs.Math.Option.{Option, none, some}
 use Rattle.lines.specs.Line.{choose, Raw, lines, characters, answer_of, seen as seen-line}
 use Rattle.lines.specs.Judging.{Judged, refused, judged_from}
 use Rattle.lines.specs.declared.Line.TheVariants.{Found}
@@ -17,10 +11,8 @@ use Rattle.lines.proofs.Judging.{ends_early, no_line_fails, line_fails, line_tak
 use Rattle.frames.specs.TableFrame.{frame_of, refusal, closes}
 use Rattle.tables.specs.Table.{Sofar, seen, taken, within, closed, whole_at, number_met, stage_behind}
 use Rattle.tables.specs.Table.{table_lines}
-use Rattle.refusals.specs.code.Said.{heard, said, stop}
+use Rattle.refusals.specs.code.Said.{Said, Goes, Stops, heard, said}
 use Rattle.frames.specs.declared.Frame.{Frame}
-use Rattle.refusals.specs.declared.Said.{Said}
-use Rattle.refusals.specs.declared.Said.TheVariants.{Goes, Stops}
 
 -- a line that is one: where the next begins, and the lines from there on
 pub record Onward (t : List ℕ) (at next : ℕ) (ls : List Raw) : Type 0 where
@@ -65,11 +57,6 @@ heard_stops r n bs k e = go (eqb (r (frame_of bs)) 0) refl e
         → (r (frame_of bs) ≡ k) × (eqb k 0 ≡ false)
     go true q e = let z : ◌≡◌ {A = ℕ} 0 1 = cc in absurd (omega arith)
     go false q e = let same : r (frame_of bs) ≡ k = cc in (same, sym (ap (λ (m : ℕ). eqb m 0) same) ∙ q)
-
--- the number that a line stops with is the one told
-pub stops_is : (x : Said) (v n : ℕ) → x ≡ Stops v → n ≡ stop x → Stops n ≡ x
-unfolding stop
-stops_is x v n e q = ap Stops (q ∙ ap stop e) ∙ sym e
 
 module _ (S : Sofar) (t : List ℕ) (at n : ℕ) where
   -- what the first of some lines says

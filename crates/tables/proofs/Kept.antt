@@ -1,17 +1,12 @@
 -- What the loop keeps is what the lines so far have said, and taking a frame in keeps that so: the path
 -- lengths due stand in `depth` and `waiting`, each below as many as its own length, and each column has the
 -- terms' numbers in front. Assumes nothing.
-use Prim.Native.Nat.{ℕ, zero, suc, ◌+◌, ◌-◌, ◌≤◌, ◌<◌}
-use mathlib.Core.Path.{◌≡◌, refl, sym, ap, ap₂, ◌∙◌}
-use mathlib.Core.Bool.{Bool, true, false}
-use mathlib.Core.List.{List, [], ◌∷◌, ◌++◌, map}
-use native.Mathlib.Omega.{arith}
-use native.Mathlib.Nat.{add-zero, zero-add}
-use lib.ListN.{length, get_or, set, drop, replicate, length-append, length-set, length-replicate, length-drop}
-use lib.ListN.{length-map}
-use lib.Seq.{sets, get_or-set_same, get_or-set_other}
-use lib.Dec.{eqb}
-use borrow.Author.Tests.{ne_eqb}
+use Rattle.std.proofs.Common.{ℕ, zero, suc, ◌+◌, ◌-◌, ◌≤◌, ◌<◌, ◌≡◌, refl, sym, ap, ap₂, ◌∙◌, Bool, true}
+use Rattle.std.proofs.Common.{false, List, [], ◌∷◌, ◌++◌, map, arith, add-zero, zero-add, length, get_or, set}
+use Rattle.std.proofs.Common.{drop, replicate, length-append, length-set, length-drop, get_or-set_same}
+use Rattle.std.proofs.Common.{get_or-set_other, eqb, ne_eqb}
+use Rattle.std.proofs.lemmas.List.{length-replicate, length-map}
+use Rattle.std.proofs.lemmas.List.Edits.{sets}
 use Rattle.lines.specs.Line.{choose}
 use Rattle.kinds.specs.Kind.{subterms}
 use Rattle.frames.specs.TableFrame.{refusal, closes}

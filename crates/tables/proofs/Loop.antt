@@ -1,11 +1,8 @@
 -- The loop over a table's lines: what is judged of the whole is what is judged of the lines from the cursor on,
 -- by what the loop keeps. One law for the start, one for each way out and one for a turn. Assumes nothing.
-use Prim.Native.Nat.{ℕ, ◌+◌, ◌-◌, ◌≤◌, ◌<◌}
-use mathlib.Core.Path.{◌≡◌, refl, sym, ap, ◌∙◌, subst}
-use mathlib.Core.Bool.{true, false}
-use mathlib.Core.List.{List, [], ◌∷◌}
-use native.Mathlib.Omega.{arith}
-use lib.ListN.{length, drop, length-replicate, replicate}
+use Rattle.std.proofs.Common.{ℕ, ◌+◌, ◌-◌, ◌≤◌, ◌<◌, ◌≡◌, refl, sym, ap, ◌∙◌, subst, true, false, List, []}
+use Rattle.std.proofs.Common.{◌∷◌, arith, length, drop, replicate}
+use Rattle.std.proofs.lemmas.List.{length-replicate}
 use Rattle.lines.specs.Line.{Raw, lines}
 use Rattle.lines.specs.Judging.{Judged, accepted, refused, judged_from}
 use Rattle.lines.specs.declared.Line.TheVariants.{Found, NoLine, End}
@@ -17,16 +14,13 @@ use Rattle.frames.specs.TableFrame.{refusal, closes}
 use Rattle.tables.specs.Table.{Sofar, next_due, seen, taken, within, closed, whole_at, number_met}
 use Rattle.tables.specs.Table.{table_lines}
 use Rattle.tables.specs.words.Columns.{answer}
-use Rattle.refusals.specs.code.Said.{said}
+use Rattle.refusals.specs.code.Said.{Said, Goes, Stops, said}
 use Rattle.filling.specs.code.Taking.{Ready, seen_then, waiting_then, roots_then, column_then}
 use Rattle.tables.specs.words.Filled.{begins, Filled, Fills}
 use Rattle.frames.specs.declared.Frame.{Frame}
 use Rattle.frames.specs.declared.Seen.{Seen}
-use Rattle.refusals.specs.declared.Said.{Said}
-use Rattle.refusals.specs.declared.Said.TheVariants.{Goes, Stops}
 use Rattle.tables.specs.declared.TableCounts.{TableCounts}
-use Rattle.tables.specs.declared.Checked.{Checked}
-use Rattle.tables.specs.declared.Checked.TheVariants.{Accepted, Refused}
+use Rattle.tables.specs.Checked.{Checked, Accepted, Refused}
 use Rattle.tables.proofs.Kept.{Keeps, ready, keeps_on}
 use Rattle.tables.proofs.Judged.{rest_stops, Went, rest_goes}
 

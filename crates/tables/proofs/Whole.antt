@@ -1,16 +1,12 @@
 -- The whole of a table's text: what line 1 opens, what is judged of all lines, and what the columns then
 -- hold. Assumes nothing.
-use Prim.Native.Nat.{ℕ, zero, suc, ◌+◌, ◌-◌, ◌≤◌, ◌<◌}
-use mathlib.Core.Path.{◌≡◌, refl, sym, ap, ap₂, ◌∙◌}
-use mathlib.Core.Bool.{Bool, true, false, ◌&&◌}
-use mathlib.Core.List.{List, [], ◌∷◌, ◌++◌, map}
-use mathlib.Core.Option.{Option, none, some}
-use native.Mathlib.Omega.{arith}
-use native.Mathlib.Nat.{zero-add}
-use lib.ListN.{length, drop, replicate, length-replicate, length-map}
-use lib.Seq.{sets, sets-eq}
-use lib.Dec.{leb, eqb}
-use borrow.Author.Tests.{le-leb, lt-leb, leb-true}
+use Rattle.std.proofs.Common.{ℕ, zero, suc, ◌+◌, ◌-◌, ◌≤◌, ◌<◌, ◌≡◌, refl, ap, ap₂, ◌∙◌, Bool, true}
+use Rattle.std.proofs.Common.{false, ◌&&◌, List, [], ◌∷◌, ◌++◌, map, arith, zero-add, length, drop}
+use Rattle.std.proofs.Common.{replicate, leb, eqb, le-leb, leb-true}
+use Rattle.std.proofs.Math.Option.{Option, none, some}
+use Rattle.std.proofs.lemmas.List.{length-replicate, length-map}
+use Rattle.std.proofs.lemmas.List.Edits.{sets, sets-eq}
+use Rattle.std.proofs.lemmas.Bool.{lt-leb}
 use Rattle.lines.specs.Line.{choose, Raw, lines, characters}
 use Rattle.lines.specs.Judging.{Judged, accepted, refused, judged_from}
 use Rattle.lines.proofs.Judging.{ends_early, no_line_fails, line_fails, line_taken}
@@ -22,15 +18,12 @@ use Rattle.columns.specs.words.Columns.{Columns, all_columns}
 use Rattle.tables.specs.words.Columns.{column, kinds, payloads, owners, roots, afters, columns_of, table_counts}
 use Rattle.tables.specs.words.Columns.{answer, with_columns, outcome}
 use Rattle.filling.specs.words.Preorder.{walked}
-use Rattle.refusals.specs.code.Said.{opens, opened_by, opened, failure}
+use Rattle.refusals.specs.code.Said.{Table, Fails, opens, opened_by, opened}
 use Rattle.tables.specs.words.Filled.{begins, Filled}
 use Rattle.frames.specs.declared.Frame.{Frame}
 use Rattle.frames.specs.declared.Frame.TheVariants.{Opening, Definition, Term, Closing, Wrong}
-use Rattle.refusals.specs.declared.TableOpened.{TableOpened}
-use Rattle.refusals.specs.declared.TableOpened.TheVariants.{Table, Fails}
 use Rattle.tables.specs.declared.TableCounts.{TableCounts}
-use Rattle.tables.specs.declared.Checked.{Checked}
-use Rattle.tables.specs.declared.Checked.TheVariants.{Accepted, Refused}
+use Rattle.tables.specs.Checked.{Checked, Accepted, Refused}
 use Rattle.tables.proofs.Judged.{onward}
 
 -- what line 1's frame opens
@@ -120,11 +113,6 @@ table_fails (l ∷ ls) k q = by_frame (desk_frame l) refl q
     by_frame (some bs) f q =
         let r = opens_fails (frame_of bs) (length (characters l) + 1) k q in
         line_fails table_lines at_start 1 l ls f r.0 r.1
-
--- the number that line 1 fails with is the one told
-pub failure_is : (x : TableOpened) (v n : ℕ) → x ≡ Fails v → n ≡ failure x → x ≡ Fails n
-unfolding failure
-failure_is x v n e q = e ∙ ap Fails (sym (q ∙ ap failure e))
 
 -- the room of the text
 pub judged_within : (t : List ℕ) → length t ≤ text_room → judged t ≡ from_first (lines t)

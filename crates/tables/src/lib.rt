@@ -9,6 +9,7 @@ ghost use Rattle.lines.specs.Judging.{judged_from};
 ghost use Rattle.tables.specs.Table as table;
 ghost use Rattle.tables.specs.Table.{Sofar, judged, seen, table_lines, within};
 ghost use Rattle.columns.specs.words.Columns.{all_columns};
+ghost use Rattle.tables.specs.Checked.{checked_told};
 ghost use Rattle.tables.specs.words.Columns.{answer, with_columns, outcome};
 ghost use Rattle.tables.specs.words.Filled.{begins, Fills};
 
@@ -16,8 +17,8 @@ use columns::{After, Kinds, Owners, Payloads, Roots};
 use filling::{LEVEL_ROOM, take, walk};
 use frames::{DEFINITION_ROOM, Seen, TERM_ROOM, closes};
 use line_reader::{Spelling, next_line};
-use lines::{Line, NO_LINE, TEXT_OVER_ROOM, WRONG_FRAME};
-use refusals::{Said, TableOpened, failure_of, first_line, stop_of, table_line};
+use lines::{Line, Refusal, RefusedAt};
+use refusals::{FrameLine, TableOpening, first_line, table_line};
 
 // The room of a table's text.
 pub const TABLE_TEXT_ROOM: usize = 32768;
@@ -30,13 +31,6 @@ pub struct TableCounts {
     pub terms: usize,
 }
 
-// What a table's text is: accepted, or the number of its refusal and the line.
-#[derive(Clone, Copy)]
-pub enum Checked {
-    Accepted(TableCounts),
-    Refused { number: u8, line: usize },
-}
-
 // Checks a table's text. Where it is accepted, the columns hold the table: `kinds`, `payloads` and `owners`,
 // the definition that each term stands in, `after`, the term behind each term and its subterms, and `roots`,
 // each definition's first term; zeros stand behind. A refusal leaves every column as it was.
@@ -47,47 +41,28 @@ pub fn check(
     owners: &mut Owners,
     after: &mut After,
     roots: &mut Roots,
-) -> Checked
-    ensures { with_columns result (all_columns kinds.new payloads.new owners.new
+) -> Result<TableCounts, RefusedAt>
+    ensures { with_columns (checked_told result) (all_columns kinds.new payloads.new owners.new
         after.new roots.new)
         ≡ outcome (all_columns kinds.old payloads.old owners.old
         after.old roots.old) (judged text.now) }
 {
     if TABLE_TEXT_ROOM < text.len() {
-        return Checked::Refused {
-            number: TEXT_OVER_ROOM,
-            line: 0,
-        };
+        return Err(Refusal::TextOverRoom.at(0));
     }
-    let first = first_line(text);
-    let TableOpened::Table {
-        definitions,
-        events,
-        next,
-    } = first
-    else {
-        return Checked::Refused {
-            number: failure_of(first),
-            line: 1,
-        };
-    };
+    let opening = first_line(text).map_err(|refusal| refusal.at(1))?;
     let mut own_kinds = [0u8; TERM_ROOM];
     let mut own_payloads = [0u64; TERM_ROOM];
     let mut own_owners = [0u8; TERM_ROOM];
     let mut own_roots = [0u16; DEFINITION_ROOM];
-    let checked = body(
+    let counts = body(
         text,
-        next,
-        definitions,
-        events,
+        opening,
         &mut own_kinds,
         &mut own_payloads,
         &mut own_owners,
         &mut own_roots,
-    );
-    let Checked::Accepted(counts) = checked else {
-        return checked;
-    };
+    )?;
     let mut own_after = [0u16; TERM_ROOM];
     walk(&own_kinds, counts.terms, &mut own_after);
     *kinds = own_kinds;
@@ -95,45 +70,40 @@ pub fn check(
     *owners = own_owners;
     *after = own_after;
     *roots = own_roots;
-    checked
+    Ok(counts)
 }
 
-// The lines behind line 1, from `from` on, into columns of the caller's own.
+// The lines behind line 1, which opened the table, into columns of the caller's own.
 fn body(
     text: &[u8],
-    from: usize,
-    definitions: usize,
-    events: usize,
+    opening: TableOpening,
     kinds: &mut Kinds,
     payloads: &mut Payloads,
     owners: &mut Owners,
     roots: &mut Roots,
-) -> Checked
-    requires { definitions ≤ 64 }
+) -> Result<TableCounts, RefusedAt>
+    requires { opening.definitions ≤ 64 }
     ensures { Fills
-        (judged_from table_lines (within (begins definitions events)) 2 (lines (drop from text.now)))
-        result kinds.new payloads.new owners.new roots.new
+        (judged_from table_lines (within (begins opening.definitions opening.events)) 2
+        (lines (drop opening.next text.now)))
+        (checked_told result) kinds.new payloads.new owners.new roots.new
         kinds.old payloads.old owners.old roots.old }
 {
     let mut waiting = [0u8; LEVEL_ROOM];
     let mut s = Seen {
-        definitions,
-        events,
+        definitions: opening.definitions,
+        events: opening.events,
         begun: 0,
         terms: 0,
         due: 0,
         depth: 0,
     };
-    let mut at = from;
+    let mut at = opening.next;
     let mut line: usize = 2;
+    // No `for` over the lines' numbers: they have no end, and what would stand behind the loop is never reached.
     loop {
         let said = table_line(text, at, s);
-        let Said::Goes { frame, next } = said else {
-            return Checked::Refused {
-                number: stop_of(said),
-                line,
-            };
-        };
+        let FrameLine { frame, next } = said.map_err(|refusal| refusal.at(line))?;
         if closes(frame) {
             return closed(text, next, s, line + 1);
         }
@@ -144,24 +114,17 @@ fn body(
 }
 
 // Behind the last line nothing may stand.
-fn closed(text: &[u8], at: usize, s: Seen, line: usize) -> Checked
-    ensures { (t : Sofar) → s ≡ seen t
-        → result ≡ answer (judged_from table_lines (table.closed t) line (lines (drop at text.now))) }
+fn closed(text: &[u8], at: usize, s: Seen, line: usize) -> Result<TableCounts, RefusedAt>
+    ensures { (t : Sofar) → s ≡ seen t → checked_told result
+        ≡ answer (judged_from table_lines (table.closed t) line (lines (drop at text.now))) }
 {
-    let found = next_line(text, at, Spelling::Desk);
-    match found {
-        Line::End => Checked::Accepted(TableCounts {
+    match next_line(text, at, Spelling::Desk) {
+        Line::End => Ok(TableCounts {
             definitions: s.definitions,
             events: s.events,
             terms: s.terms,
         }),
-        Line::NoLine => Checked::Refused {
-            number: NO_LINE,
-            line,
-        },
-        Line::Found { end: _, next: _ } => Checked::Refused {
-            number: WRONG_FRAME,
-            line,
-        },
+        Line::NoLine => Err(Refusal::NotALine.at(line)),
+        Line::Found { .. } => Err(Refusal::WrongFrame.at(line)),
     }
 }

@@ -1,15 +1,14 @@
 -- The listing's lines, put one part behind another. A byte in front of a line makes a longer line, so a step's and a status's
 -- line go by their bytes. A copied text is put where all its characters are, or where the slice has no room for more of
 -- them. Assumes nothing.
-use Prim.Native.Nat.{ℕ, suc, ◌+◌, ◌-◌, ◌≤◌, ◌<◌, min}
-use mathlib.Core.Path.{◌≡◌, refl, sym, ◌∙◌}
-use mathlib.Core.List.{List, [], ◌∷◌}
-use native.Mathlib.Omega.{arith}
-use lib.ListN.{length, set, get_or, take}
-use lib.Seq.{sets, set_out, length-take-le, slice, slice-cons}
+use Rattle.std.proofs.Common.{ℕ, zero, suc, ◌+◌, ◌-◌, ◌≤◌, ◌<◌, min, ◌≡◌, refl, sym, ◌∙◌, List, [], ◌∷◌, append_assoc}
+use Rattle.std.proofs.Common.{length, set, take, arith, length-set, length-take-le, take-take, drop-drop}
+use Rattle.std.proofs.lemmas.List.Edits.{sets, sets-eq}
+use borrow.Rule.Slice.PartMut.{put_mid}
+use lib.Seq.{set_out}
 use Rattle.lines.specs.Line.{hex, text, LF, two}
 use Rattle.spelling.specs.words.Puts.{Puts}
-use Rattle.spelling.proofs.Putting.{puts_then, Owed, owed_all, owed_less, owed_length}
+use Rattle.spelling.proofs.Putting.{puts_then}
 use Rattle.telling.specs.ListingFrame.{refusal_frame, alone}
 
 -- a byte in front of a line
@@ -35,26 +34,28 @@ sets_none t b (y ∷ ys) h =
     let past : length t ≤ b = omega arith in
     rw (set_out t b y past) (sets_none t (suc b) ys (omega arith))
 
--- a character
-puts_one : (t : List ℕ) (b x : ℕ) → Puts b (x ∷ []) t (set t b x) (b + 1)
-puts_one t b x = record { ends = refl; stands = refl }
+-- so characters may be cut where the slice goes no further
+sets_room : (t : List ℕ) (b k : ℕ) (ys : List ℕ) → min (b + length ys) (length t) ≤ b + k
+    → sets t b (take k ys) ≡ sets t b ys
+sets_room t b zero ys h = sym (sets_none t b ys (omega arith))
+sets_room t b (suc k) [] h = refl
+sets_room t b (suc k) (y ∷ ys) h = sets_room (set t b y) (suc b) k ys (omega (arith, length-set t b y))
 
--- before the first of n characters all are owed
-pub copy_owed : {s : List ℕ} {a : ℕ} (cs : List ℕ) (n : ℕ) → Owed (take n cs) a s (slice (a - a) n cs) a s
-copy_owed {a = a} cs n = let none : a - a ≡ 0 = omega arith in rw none owed_all
+-- n characters are put, as far as the slice goes
+module _ (cs : List ℕ) {t : List ℕ} (a n : ℕ) (have : n ≤ length cs) where
+  set_is_put : {u : List ℕ} → u ≡ sets t a (take n cs) → Puts a (take n cs) t u (a + n)
+  set_is_put e = let all : length (take n cs) ≡ n = length-take-le n cs have in record { ends = omega arith; stands = e }
 
-module _ {s t : List ℕ} {a b : ℕ} (cs : List ℕ) (n : ℕ) (have : n ≤ length cs) where
-  -- one less, where one is copied
-  pub copy_less : {xs : List ℕ} → a ≤ b → b < a + n → Owed xs a s (slice (b - a) n cs) b t
-      → Owed xs a s (slice (b + 1 - a) n cs) (b + 1) (set t b (get_or cs (b - a) 0))
-  copy_less h k o =
-      let next : b + 1 - a ≡ suc (b - a) = omega arith in
-      rw next (owed_less (rw (slice-cons (b - a) n cs 0 (omega arith) have) at o) (puts_one t b (get_or cs (b - a) 0)))
+  pub copy_put : {ys : List ℕ} (r : ℕ) → a < r → r ≡ min (a + n) (length t) → ys ≡ take (r - a) cs
+      → Puts a (take n cs) t (put_mid a (r - a) t ys) (a + n)
+  copy_put {ys} r h e f =
+      let many : length ys ≡ r - a = rw f (length-take-le (r - a) cs (omega arith)) in
+      let behind : r ≡ a + length ys = omega arith in
+      let cut : take (r - a) (take n cs) ≡ ys = take-take (r - a) n cs (omega arith) ∙ sym f in
+      set_is_put
+      (rw drop-drop
+      (sym (sym (sets_room t a (r - a) (take n cs) (omega (arith, length-take-le n cs have)))
+      ∙ rw cut (sets-eq ys t a (omega arith) ∙ rw many (append_assoc (take a t) ys _)))))
 
-  -- n characters are copied, as far as the slice goes
-  pub copy_done : {ys : List ℕ} → min (a + n) (length s) ≤ b → Owed (take n cs) a s ys b t
-      → Puts a (take n cs) s t (a + n)
-  copy_done {ys} h o =
-      let all : length (take n cs) ≡ n = length-take-le n cs have in
-      let kept : length t ≡ length s = owed_length o in
-      record { ends = omega arith; stands = sym (sets_none t b ys (omega (arith, o.lengths))) ∙ o.same }
+  pub none_put : min (a + n) (length t) ≤ a → Puts a (take n cs) t t (a + n)
+  none_put h = set_is_put (sym (sets_none t a (take n cs) (omega (arith, length-take-le n cs have))))

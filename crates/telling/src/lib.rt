@@ -7,7 +7,6 @@ ghost use Rattle.lines.specs.Line.{text};
 ghost use Rattle.spelling.specs.words.Puts.{Puts, number_cursor, line_cursor};
 ghost use Rattle.telling.specs.ListingFrame.{step_frame, status_frame, alone};
 
-use links::at_most;
 use rules::{Event, Status};
 use spelling::{put_byte, put_end, put_number};
 
@@ -24,14 +23,12 @@ pub fn put_event(event: Event, at: usize, out: &mut [u8]) -> usize
     ensures { Puts at (text (step_frame event ∷ [])) out.old out.new result }
 {
     let a = put_byte(at, SHOWN_FRAME, out);
-    match event {
-        Event::Tau => put_last(0, a, out),
-        Event::Tick => put_last(1, a, out),
-        Event::Visible(e) => {
-            let b = put_byte(a, 2, out);
-            put_last(e, b, out)
-        }
-    }
+    let (b, last) = match event {
+        Event::Tau => (a, 0),
+        Event::Tick => (a, 1),
+        Event::Visible(e) => (put_byte(a, 2, out), e),
+    };
+    put_last(last, b, out)
 }
 
 // `41 ss`: 00 live, 01 ended, 02 stuck.
@@ -40,14 +37,15 @@ pub fn put_status(status: Status, at: usize, out: &mut [u8]) -> usize
     ensures { Puts at (text (status_frame status ∷ [])) out.old out.new result }
 {
     let a = put_byte(at, STATUS_FRAME, out);
-    match status {
-        Status::Live => put_last(0, a, out),
-        Status::Ended => put_last(1, a, out),
-        Status::Stuck => put_last(2, a, out),
-    }
+    let told = match status {
+        Status::Live => 0,
+        Status::Ended => 1,
+        Status::Stuck => 2,
+    };
+    put_last(told, a, out)
 }
 
-// `4e rr llll`: a refusal's number and line.
+// `4e rr llll`: a refusal's number and line, whatever number it is given: the enum would ask more of callers.
 pub fn put_refusal(number: u8, line: usize, at: usize, out: &mut [u8]) -> usize
     requires { at ≤ line_cursor }
     ensures { Puts at (alone number line) out.old out.new result }
@@ -73,11 +71,9 @@ pub fn put_copy(characters: &[u8], count: usize, from: usize, out: &mut [u8]) ->
     ensures { Puts from (take count characters.now) out.old out.new result }
 {
     let end = from + count;
-    let room = at_most(end, out.len());
-    let mut at = from;
-    while at < room {
-        out[at] = characters[at - from];
-        at += 1;
+    let room = end.min(out.len());
+    if from < room {
+        out[from..room].copy_from_slice(&characters[..room - from]);
     }
     end
 }

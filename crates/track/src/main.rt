@@ -14,11 +14,7 @@ const LISTING_ROOM: usize = 131086;
 fn main(rt: HostRuntime) -> io::Result<()> {
     let mut input = input_room();
     let count = read_full(&mut rt.stdin(), &mut input)?;
-    let mut out = listing_room();
+    let mut out = [0u8; LISTING_ROOM];
     let length = list(&input[..count], &mut out);
     rt.write_all(part_of(&out, 0, length))
-}
-
-fn listing_room() -> [u8; LISTING_ROOM] {
-    [0u8; LISTING_ROOM]
 }

@@ -5,11 +5,11 @@ use mathlib.Core.List.{List, [], ◌∷◌}
 use borrow.Author.Tests.{eq-eqb, ne_eqb}
 use Rattle.columns.specs.words.Columns.{columns}
 use Rattle.writing.specs.words.Slice.{with_slice, written}
-use Rattle.writing.specs.declared.Saved.{Saved}
+use Rattle.writing.specs.Answers.{Saved}
 use Rattle.links.specs.declared.GraphCounts.{GraphCounts}
 use Rattle.reading.specs.code.Outcome.{track_read, with_graph}
-use Rattle.reading.specs.declared.Read.{Read}
-use Rattle.reading.specs.declared.Read.TheVariants as Track
+use Rattle.reading.specs.Answers.{Read}
+use Rattle.reading.specs.Answers as Track
 use Rattle.saving.specs.code.Saving.{text_of}
 use Rattle.graphs.specs.Saved.{graph_text}
 use Rattle.framing.specs.words.Told.{graph_told}

@@ -6,13 +6,13 @@ ghost use Rattle.std.specs.Prelude.{◌≡◌, length};
 ghost use Rattle.track_parts.specs.code.TrackTold as host;
 
 use answers::{
-    DONE, Head, NO_TABLE, NO_TRACK, TABLE_STAMP, TRACK_STAMP, length_of, line_of_read, of_read,
+    DONE, Head, NO_TABLE, NO_TRACK, TABLE_STAMP, TRACK_STAMP, length_of, line_of, of_judged,
     of_saved, unready,
 };
 use columns::{After, Kinds, Owners, Payloads, Roots};
 use control::{Counters, Nodes, Track};
 use links::{Column, GraphCounts, SideWords};
-use reading::{Read, read_track};
+use reading::read_track;
 use saving::save;
 use writing::write;
 
@@ -107,9 +107,9 @@ pub fn read_parts<'s, 'n, 'b>(
         numbers,
         walked,
     );
-    *line = line_of_read(read);
-    let Read::Accepted(counts) = read else {
-        return of_read(read);
+    *line = line_of(read);
+    let Ok(counts) = read else {
+        return of_judged(read);
     };
     *found = [TRACK_STAMP, counts.nodes, counts.arcs, counts.meetings];
     DONE

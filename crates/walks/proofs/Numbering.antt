@@ -1,17 +1,11 @@
 -- Numbers given to references one after the other: who has none has the word that there was, who has one has a word
 -- that is not 0, and one reference more is one word more. Assumes nothing.
-use Prim.Native.Nat.{ℕ, suc, ◌+◌, ◌<◌}
-use mathlib.Core.Path.{◌≡◌, refl, ap, ◌∙◌}
-use mathlib.Core.Bool.{Bool, true, false}
-use mathlib.Core.List.{List, [], ◌∷◌, ◌++◌, map-append}
-use mathlib.Core.Logic.{⊎_elim}
-use native.Mathlib.Omega.{arith}
-use native.Mathlib.Nat.{add-zero}
-use native.Mathlib.Numerals.{add-one}
-use lib.ListN.{length, get_or, set, replicate, length-set, length-replicate, length-map, get_or-replicate}
-use lib.Seq.{get_or-set_same, get_or-set_other}
-use lib.Dec.{eqb}
-use borrow.Author.Tests.{eqb-true, eqb-false}
+use Rattle.std.proofs.Common.{ℕ, suc, ◌+◌, ◌<◌, ◌≡◌, refl, ap, ◌∙◌, Bool, true, false, List, [], ◌∷◌, ◌++◌, ⊎_elim, arith}
+use Rattle.std.proofs.Common.{add-zero, add-one, length, get_or, set, replicate, length-set, get_or-set_same}
+use Rattle.std.proofs.Common.{get_or-set_other, eqb, eqb-true}
+use mathlib.Core.List.{map-append}
+use lib.ListN.{length-replicate, length-map, get_or-replicate}
+use borrow.Author.Tests.{eqb-false}
 use Rattle.tables.proofs.Kept.{sets_snoc}
 use Rattle.control.specs.words.Words.{reference_room}
 use Rattle.graphs.specs.Walk.{among}

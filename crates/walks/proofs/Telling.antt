@@ -1,18 +1,13 @@
 -- What the marks of a graph in columns tell of a checked table. A mark is the start's or that of a literal of one
 -- definition's tree, its own or its event; its number lies in the run of a side exactly where its path begins with
 -- that side's, so columns tell which literals split and which side of a literal another stands on. Assumes nothing.
-use Prim.Native.Nat.{ℕ, zero, suc, ◌+◌, ◌*◌, ◌≤◌, ◌<◌}
-use mathlib.Core.Path.{◌≡◌, refl, sym, ap, subst, ◌∙◌}
-use mathlib.Core.Bool.{Bool, true, false, ◌&&◌, ◌||◌, not, and-false}
-use mathlib.Core.List.{List, [], ◌∷◌, ◌++◌, append-nil}
+use Rattle.std.proofs.Common.{ℕ, zero, suc, ◌+◌, ◌*◌, ◌≤◌, ◌<◌, ◌≡◌, refl, sym, ap, subst, ◌∙◌, Bool, true, false, ◌&&◌}
+use Rattle.std.proofs.Common.{◌||◌, not, List, [], ◌∷◌, ◌++◌, append-nil, inl, inr, arith, add_assoc, add-one, length}
+use Rattle.std.proofs.Common.{get_or, leb, ltb, eqb, eqb-true, ne_eqb, ltb-true, ltb-false, le-ltb, leb-true, leb-false}
+use mathlib.Core.Bool.{and-false}
 use mathlib.Core.Option.{Option, none, some, some-injective}
-use mathlib.Core.Logic.{inl, inr}
-use native.Mathlib.Omega.{arith}
-use native.Mathlib.Nat.{add_assoc}
-use native.Mathlib.Numerals.{add-one}
-use lib.ListN.{length, get_or, get_elem?}
-use lib.Dec.{leb, ltb, eqb}
-use borrow.Author.Tests.{eqb-true, eqb-false, ne_eqb, ltb-true, ltb-false, le-ltb, leb-true, leb-false}
+use lib.ListN.{get_elem?}
+use borrow.Author.Tests.{eqb-false}
 use Rattle.lines.specs.Line.{choose}
 use Rattle.lines.specs.Judging.{accepted}
 use Rattle.kinds.specs.Kind as Kind
@@ -22,9 +17,8 @@ use Rattle.tables.specs.words.Columns.{kinds, owners, afters, roots}
 use Rattle.terms.specs.Term.{Term, Operator, call, SKIP, STOP, internal, external, sequence, parallel, size}
 use Rattle.terms.specs.Term.{leaf_kind, operator_kind, definitions_of}
 use Rattle.terms.specs.words.Held.{HoldsTerm}
-use Rattle.terms.specs.Term as Term
 use Rattle.terms.proofs.Held.{holds_behind, size_some}
-use Rattle.places.specs.Place.{Place, path_in, term_at, left_path, own, begins, under}
+use Rattle.places.specs.Place.{Place, path_in, term_at, left_path, begins, under}
 use Rattle.columns.specs.words.Columns.{look, columns}
 use Rattle.columns.proofs.Laws.{look_in}
 use Rattle.places.proofs.Sides.{Side, first, second, side_inside}

@@ -2,17 +2,14 @@
 -- passed, and another gets the next number, and where it leads is put on top. What is numbered, with the walk of
 -- what is pending, is the whole walk; each number that is given leaves room for two more to be pending. Assumes
 -- nothing.
-use Prim.Native.Nat.{ℕ, zero, suc, ◌+◌, ◌*◌, ◌-◌, ◌≤◌, ◌<◌}
-use mathlib.Core.Path.{◌≡◌, refl, sym, subst, ◌∙◌}
-use mathlib.Core.Bool.{Bool, true, false}
-use mathlib.Core.List.{List, [], ◌∷◌, ◌++◌, append_assoc}
-use native.Mathlib.Omega.{arith}
-use native.Mathlib.Nat.{add-zero}
-use native.Mathlib.Numerals.{add-one}
-use lib.ListN.{length, get_or, set, replicate, length-append, length-replicate, get_or-replicate}
-use lib.Seq.{sets, length-sets, get_or-set_same, get_or-set_other}
-use lib.Dec.{ltb, eqb}
-use borrow.Author.Tests.{ltb-true, eq-eqb, ne_eqb, lt-ltb, le-ltb}
+use Rattle.std.proofs.Common.{ℕ, zero, suc, ◌+◌, ◌*◌, ◌-◌, ◌≤◌, ◌<◌, ◌≡◌, refl, sym, subst, ◌∙◌, Bool, true, false, not}
+use Rattle.std.proofs.Common.{List, [], ◌∷◌, ◌++◌, append_assoc, length, get_or, set, replicate, length-append}
+use Rattle.std.proofs.Common.{get_or-set_same, get_or-set_other, arith, add-zero, add-one, ltb, eqb, ltb-true, lt-ltb}
+use Rattle.std.proofs.Common.{le-ltb}
+use Rattle.std.proofs.lemmas.List.Edits.{sets}
+use lib.ListN.{length-replicate, get_or-replicate}
+use lib.Seq.{length-sets}
+use mir.Val.{bool_byte}
 use Rattle.lines.specs.Line.{choose}
 use Rattle.columns.specs.words.Columns.{look}
 use Rattle.columns.proofs.Laws.{look_in}
@@ -38,7 +35,7 @@ pub stacked : List ℕ → ℕ → List ℕ
 stacked ps zero = []
 stacked ps (suc k) = get_or ps k 0 ∷ stacked ps k
 
-stacked_top : (ps : List ℕ) (k : ℕ) → (k ≡ 0 → ⊥) → stacked ps k ≡ get_or ps (k - 1) 0 ∷ stacked ps (k - 1)
+stacked_top : (ps : List ℕ) (k : ℕ) → 0 < k → stacked ps k ≡ get_or ps (k - 1) 0 ∷ stacked ps (k - 1)
 unfolding stacked
 stacked_top ps k h =
     let more : k ≡ suc (k - 1) = omega arith in
@@ -64,7 +61,7 @@ put_on_top ps k (suc n) h = go (ltb n reference_room)
     go false = rw (add-zero k)
 
 -- a word leads to the reference that it is one more than
-target_one : (v : ℕ) → (v ≡ 0 → ⊥) → v ≤ reference_room → target v ≡ (v - 1) ∷ []
+target_one : (v : ℕ) → 1 ≤ v → v ≤ reference_room → target v ≡ (v - 1) ∷ []
 unfolding target
 target_one v h l =
     let more : v ≡ suc (v - 1) = omega arith in
@@ -88,17 +85,15 @@ Pushed w ps t word t' ps' =
 
 -- a word leads nowhere, or to the reference that it is one more than
 module _ (w ps : List ℕ) (t word v : ℕ) (word_is : v ≡ look side_words w word) where
-  pub push_none : v ≡ 0 → Pushed w ps t word t ps
+  pub push_none : (1 ≤ v → reference_room < v) → Pushed w ps t word t ps
   unfolding target
-  push_none h = rw (← word_is, h) (sym (add-zero t), refl)
+  push_none h = rw (← word_is) (go v h)
+    where
+      go : (u : ℕ) → (1 ≤ u → reference_room < u) → (t ≡ t + length (target u)) × (ps ≡ sets ps t (target u))
+      go zero k = (sym (add-zero t), refl)
+      go (suc u) k = let l = k (omega arith) in rw (le-ltb u reference_room (omega arith)) (sym (add-zero t), refl)
 
-  pub push_out : reference_room < v → Pushed w ps t word t ps
-  unfolding target
-  push_out h =
-      let more : v ≡ suc (v - 1) = omega arith in
-      rw (← word_is, more, le-ltb (v - 1) reference_room (omega arith)) (sym (add-zero t), refl)
-
-  pub push_one : (v ≡ 0 → ⊥) → v ≤ reference_room → Pushed w ps t word (t + 1) (set ps t (v - 1))
+  pub push_one : 1 ≤ v → v ≤ reference_room → Pushed w ps t word (t + 1) (set ps t (v - 1))
   unfolding target
   push_one h l =
       let one : target v ≡ (v - 1) ∷ [] = target_one v h l in
@@ -149,13 +144,14 @@ module _ (ms w ns ls ps : List ℕ) (top count : ℕ) (u : Underway ms w ns ls p
   pending_most = omega (arith, u.enough, u.most, counted_most)
 
   -- with nothing pending, what is numbered is the walk
-  pub walk_done : top ≡ 0 → with_numbers count ns ls ≡ nodes_numbered ms w
+  pub walk_done : top ≤ 0 → with_numbers count ns ls ≡ nodes_numbered ms w
   unfolding stacked
   walk_done h =
-      let done : u.seen ≡ walked ms w = sym (walk_over (on w) u.turns u.seen).0 ∙ (rw h at u.whole) in
+      let none : top ≡ 0 = omega arith in
+      let done : u.seen ≡ walked ms w = sym (walk_over (on w) u.turns u.seen).0 ∙ (rw none at u.whole) in
       rw (← done, ← u.counted, u.numbers_are, u.labels_are)
 
-  module _ (n : ℕ) (pending : top ≡ 0 → ⊥) (next : n ≡ get_or ps (top - 1) 0) where
+  module _ (n : ℕ) (pending : 0 < top) (next : n ≡ get_or ps (top - 1) 0) where
     -- the next one is a reference
     next_first : stacked ps top ≡ n ∷ stacked ps (top - 1)
     next_first = rw next (stacked_top ps top pending)
@@ -255,14 +251,13 @@ module _ (ms w ns ls ps : List ℕ) (top count : ℕ) (u : Underway ms w ns ls p
           }
 
 -- at first reference 0 is pending, where it has a mark
-module _ (ms : List ℕ) (m : ℕ) (mark : m ≡ at ms 0) where
-  pub first_none : m ≡ 0 → 0 ≡ length (first ms)
-  unfolding first
-  first_none h = rw (← mark, eq-eqb m 0 h)
-
-  pub first_one : (m ≡ 0 → ⊥) → 1 ≡ length (first ms)
-  unfolding first
-  first_one h = rw (← mark, ne_eqb m 0 h)
+pub first_many : (ms : List ℕ) (m : ℕ) → m ≡ at ms 0 → bool_byte (not (eqb m 0)) ≡ length (first ms)
+unfolding first
+first_many ms m mark = rw (← mark) (go (eqb m 0))
+  where
+    go : (b : Bool) → bool_byte (not b) ≡ length {A = ℕ} (choose b [] (0 ∷ []))
+    go true = refl
+    go false = refl
 
 first_stack : (ms ps : List ℕ) → get_or ps 0 0 ≡ 0
     → (stacked ps (length (first ms)) ≡ first ms) × (length (first ms) ≤ 1) × Below (first ms)

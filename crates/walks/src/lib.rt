@@ -9,7 +9,6 @@ ghost use Rattle.links.specs.code.Linked.{target, side_words};
 ghost use Rattle.walks.specs.code.Walked as of;
 ghost use Rattle.control.specs.words.Words.{reference_room};
 
-use columns::wide;
 use control::REFERENCES;
 use links::{Column, SIDE_WORDS, SideWords, reference_word, side_word};
 
@@ -31,20 +30,15 @@ pub fn walk(
     *pending = [0u16; SIDE_WORDS];
     let mut top = pending_first(marks);
     let mut count: usize = 0;
-    'walk: loop {
-        let node = loop {
-            if top == 0 {
-                break 'walk;
-            }
-            top -= 1;
-            let next = wide(pending[top]);
-            if numbers[next] == 0 {
-                break next;
-            }
-        };
-        count = give_number(node, count, marks, numbers, labels);
-        top = push(node, 2, top, sides, pending);
-        top = push(node, 1, top, sides, pending);
+    // What is pending is a stack: no range says how often it is taken from.
+    while top > 0 {
+        top -= 1;
+        let node = usize::from(pending[top]);
+        if numbers[node] == 0 {
+            count = give_number(node, count, marks, numbers, labels);
+            top = push(node, 2, top, sides, pending);
+            top = push(node, 1, top, sides, pending);
+        }
     }
     *pending = [0u16; SIDE_WORDS];
     count
@@ -54,7 +48,7 @@ pub fn walk(
 fn pending_first(marks: &Column) -> usize
     ensures { result ≡ length (of.first marks.now) }
 {
-    if reference_word(0, marks) == 0 { 0 } else { 1 }
+    usize::from(reference_word(0, marks) != 0)
 }
 
 // Gives a node the next number, and its mark the next place; how many nodes have numbers then.
@@ -82,13 +76,11 @@ fn push(node: usize, side: usize, top: usize, sides: &SideWords, pending: &mut S
     ensures pending_after { pending.new
         ≡ sets pending.old top (target (look side_words sides.now (2 * node + side))) }
 {
-    let next = side_word(2 * node + side, sides);
-    if next == 0 {
-        return top;
+    match side_word(2 * node + side, sides) {
+        next @ 1..=REFERENCES => {
+            pending[top] = (next - 1) as u16;
+            top + 1
+        }
+        _ => top,
     }
-    if REFERENCES < next {
-        return top;
-    }
-    pending[top] = (next - 1) as u16;
-    top + 1
 }

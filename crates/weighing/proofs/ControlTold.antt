@@ -2,15 +2,9 @@
 -- over the process that the words hold there: an untouched term by `term_told`, an entered choice or parallel by
 -- its sides. For two ended sides the words tell the run's arcs, and the arcs of the step so far lead elsewhere.
 -- Assumes nothing.
-use Prim.Native.Nat.{ℕ, zero, suc, ◌+◌, ◌-◌, ◌≤◌, ◌<◌, max}
-use mathlib.Core.Path.{◌≡◌, refl, sym, ap, subst, ◌∙◌}
-use mathlib.Core.Bool.{Bool, true, false, ◌&&◌, ◌||◌, not}
-use mathlib.Core.List.{List, [], ◌∷◌}
-use mathlib.Core.Option.{Option, none, some}
-use native.Mathlib.Omega.{arith}
-use lib.ListN.{length}
-use lib.Dec.{eqb}
-use borrow.Author.Tests.{eq-eqb, ne_eqb, eqb-true}
+use Rattle.std.proofs.Common.{ℕ, zero, suc, ◌+◌, ◌-◌, ◌≤◌, ◌<◌, max, ◌≡◌, refl, sym, ap, subst, ◌∙◌, Bool, true}
+use Rattle.std.proofs.Common.{false, ◌&&◌, ◌||◌, not, List, [], ◌∷◌, arith, length, eqb, eq-eqb, ne_eqb, eqb-true}
+use Rattle.std.proofs.Math.Option.{Option, none, some}
 use Rattle.lines.specs.Line.{choose}
 use Rattle.places.specs.Place.{Place}
 use Rattle.terms.specs.Term.{Term}
@@ -31,7 +25,7 @@ use Rattle.looking.specs.code.Looking as Looking
 use Rattle.looking.specs.code.Looking.{is_side, taken, is_within}
 use Rattle.weighing.specs.code.Ending.{weigh_end}
 use Rattle.weighing.specs.code.Weigh.{by_digit, at_reference}
-use Rattle.weights.specs.declared.Weighed.TheVariants.{Nothing}
+use Rattle.std.specs.Prelude.{None}
 use Rattle.control.proofs.Capped.{capped_small}
 use Rattle.weighing.proofs.Told.{number, From, weight, weight_of, wrapped, Single, some_behind}
 use Rattle.weighing.proofs.Told.{weight_none, weight_settled, digit_none, next_at, from_at, from_left}
@@ -309,7 +303,7 @@ module _ (ts : List Term) (l : Layout) (p x : List ℕ) (count : ℕ) (ds : List
         where
           go : (z z' : Bool) → at_Ω P ≡ z → at_Ω Q ≡ z'
               → choose (z && z')
-              (Rules.ended at size (Looking.parents g (node 4 w n) (node 5 w n) 0 arcs) (some_behind qs)) Nothing
+              (Rules.ended at size (Looking.parents g (node 4 w n) (node 5 w n) 0 arcs) (some_behind qs)) None
               ≡ weight_of count (wrapped qs (choose (z && z') (stepped (ended m₁ m₂ s) a) none))
           go true true q q' =
               let (named-first, below) = first.named q in
@@ -345,7 +339,7 @@ module _ (ts : List Term) (l : Layout) (p x : List ℕ) (count : ℕ) (ds : List
             around_it,
           )
           (by_first p x count ds ts (term w n) v m₁ m₂ P Q s qs (behinds_single l p x w ks qs c) (omega arith)
-          size (omega arith) k h.kind_is (set_in p x (term w n) known ∙ h.set_is) a _ (λ at. Nothing)
+          size (omega arith) k h.kind_is (set_in p x (term w n) known ∙ h.set_is) a _ (λ at. None)
           (first.tells m₂ met v (suc at) a s from.1 since))
       split_at t at size (two ∷ a) s from since e few =
           let known = split_some p k (term w n) h.kind_is in
@@ -360,7 +354,7 @@ module _ (ts : List Term) (l : Layout) (p x : List ℕ) (count : ℕ) (ds : List
             around_it,
           )
           (by_second p x count ds ts (term w n) v m₁ m₂ P Q s qs (behinds_single l p x w ks qs c) (omega arith)
-          size (omega arith) k h.kind_is (set_in p x (term w n) known ∙ h.set_is) a _ (λ at. Nothing)
+          size (omega arith) k h.kind_is (set_in p x (term w n) known ∙ h.set_is) a _ (λ at. None)
           (other.tells m₁ met' v (suc at) a s from.1 since))
       split_at t at size (three ∷ a) s from since e few =
           let known = split_some p k (term w n) h.kind_is in

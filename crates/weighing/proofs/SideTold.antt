@@ -2,15 +2,10 @@
 -- what entering them adds in front, what the rules make of them is the weight of the split's step, with the
 -- sequences around it. The same laws serve a term that no step has touched and an entered choice or parallel.
 -- Assumes nothing.
-use Prim.Native.Nat.{ℕ, suc, ◌+◌, ◌*◌, ◌-◌, ◌<◌}
-use mathlib.Core.Path.{◌≡◌, refl, sym, ap, ◌∙◌}
-use mathlib.Core.Bool.{Bool, true, false, ◌&&◌}
-use mathlib.Core.List.{List, [], ◌∷◌, ◌++◌}
-use mathlib.Core.Option.{Option, none, some}
-use native.Mathlib.Omega.{arith}
+use Rattle.std.proofs.Common.{ℕ, suc, ◌+◌, ◌*◌, ◌-◌, ◌<◌, ◌≡◌, refl, sym, ap, ◌∙◌, Bool, true, false, ◌&&◌, List, []}
+use Rattle.std.proofs.Common.{◌∷◌, ◌++◌, arith, length, length-append, eqb}
+use Rattle.std.proofs.Math.Option.{Option, none, some}
 use native.Mathlib.Nat.{add_comm, zero-mul, suc-mul}
-use lib.ListN.{length, length-append}
-use lib.Dec.{eqb}
 use Rattle.lines.specs.Line.{choose}
 use Rattle.sets.specs.EventSet.{member}
 use Rattle.kinds.specs.Kind as Kind
@@ -30,8 +25,8 @@ use Rattle.looking.specs.code.Looking.{is_side, set_of}
 use Rattle.weights.specs.code.Rules as Rules
 use Rattle.weights.specs.code.Rules.{settled, resized, entering, end_of}
 use Rattle.weighing.specs.code.Weigh.{by_digit}
-use Rattle.weights.specs.declared.Weighed.{Weighed}
-use Rattle.weights.specs.declared.Weighed.TheVariants.{Derived, Nothing}
+use Rattle.weights.specs.code.Rules.{Weighed}
+use Rattle.std.specs.Prelude.{Some, None}
 use Rattle.control.proofs.Capped.{capped_sum, capped_left, capped_right, capped_product}
 use Rattle.weighing.proofs.Told.{weight, weight_of, wrapped, Single, some_behind, weight_none}
 use Rattle.weighing.proofs.Told.{τ-goes-on, visible_goes_on, weight_on, weight_settled, ends_single}
@@ -92,7 +87,7 @@ module _ (count : ℕ) where
       (whole : size ≡ length qs + (1 + (own + other))) where
     -- a test bars a step
     barred_told : (b : Bool) (w : Weighed) (r : Option Stepped) → w ≡ weight_of count (wrapped qs r)
-        → choose b Nothing w ≡ weight_of count (wrapped qs (choose b none r))
+        → choose b None w ≡ weight_of count (wrapped qs (choose b none r))
     unfolding weight_of
     barred_told true w r e = weight_none count qs
     barred_told false w r e = e
@@ -102,7 +97,7 @@ module _ (count : ℕ) where
         (a : Address) where
       -- the split stays, or is dropped
       stays_told : (v : Event) → (v ≡ ✓ → ⊥)
-          → Derived (resized v (capped (size - own + capped (cells r.process)))
+          → Some (resized v (capped (size - own + capped (cells r.process)))
           (weight count (around i r v r.process r.reference) a))
           ≡ weight_of count (wrapped qs (stepped (around i r v (put (some r.reference) r.process) m) a))
       unfolding around resized weight
@@ -113,7 +108,7 @@ module _ (count : ℕ) where
           ∙ rw (room r.reference r.process, capped_right (size - own) n, e))
 
       drops_told : (v : Event) → (v ≡ ✓ → cells r.process ≡ 1)
-          → settled (Derived (resized v (capped (size - own - other - 1 + capped (cells r.process)))
+          → settled (Some (resized v (capped (size - own - other - 1 + capped (cells r.process)))
           (weight count (around i r v r.process r.reference) a))) (some_behind qs)
           ≡ weight_of count (wrapped qs (stepped (around i r v r.process r.reference) a))
       unfolding around
@@ -125,7 +120,7 @@ module _ (count : ℕ) where
 
       side_told : (k : Split) (v : Event) → (v ≡ ✓ → cells r.process ≡ 1)
           → Rules.one (split_kind k) (split_set k)
-          (Derived (weight count (around i r v r.process r.reference) a)) size own other (some_behind qs)
+          (Some (weight count (around i r v r.process r.reference) a)) size own other (some_behind qs)
           ≡ weight_of count (wrapped qs (one_side k v i put m r a))
       unfolding
           Rules.one one_side split_kind split_set Rules.barred Rules.stays Rules.shown weight around resized
@@ -151,11 +146,11 @@ module _ (count : ℕ) where
     module _ (x : ℕ) (v : Place) (n₁ n₂ : Option ℕ) (s : At) (l : Outcome) (a : Address) where
       -- what the sides weigh, where their events are e and f
       abbrev Left : Event → Weighed
-      Left e = Derived (weight count (around (first_eval n₁ n₂ v s) l e l.process l.reference) a)
+      Left e = Some (weight count (around (first_eval n₁ n₂ v s) l e l.process l.reference) a)
 
       abbrev Right : Stepped → Event → Weighed
       Right y f =
-          Derived (weight count
+          Some (weight count
           (around (right_eval n₁ n₂ v s l) y.outcome f y.outcome.process y.outcome.reference)
           y.unused)
 
@@ -219,11 +214,11 @@ module _ (count : ℕ) where
       both_told (some y) = events_told y l.event y.outcome.event
 
 -- a choice has no joint step
-choice_alone : (x size own other : ℕ) (l r : Weighed) → Rules.both Kind.external x l r size own other ≡ Nothing
+choice_alone : (x size own other : ℕ) (l r : Weighed) → Rules.both Kind.external x l r size own other ≡ None
 unfolding Rules.both Rules.agree
-choice_alone x size own other Nothing r = refl
-choice_alone x size own other (Derived l) Nothing = refl
-choice_alone x size own other (Derived l) (Derived r) = rw (disagree l.event r.event)
+choice_alone x size own other None r = refl
+choice_alone x size own other (Some l) None = refl
+choice_alone x size own other (Some l) (Some r) = rw (disagree l.event r.event)
   where
     disagree : (e f : Event) → Rules.agree Kind.external x e f ≡ false
     disagree Tau f = refl

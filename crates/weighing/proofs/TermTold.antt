@@ -1,15 +1,11 @@
 -- A term that no step has touched weighs what the report's step of it is, with the sequences around it. By
 -- induction over the term: a sequence goes to its left with one more around it, a split to its sides with none.
 -- It has at most as many levels as are gone down to. Assumes nothing.
-use Prim.Native.Nat.{ℕ, zero, suc, ◌+◌, ◌*◌, ◌-◌, ◌≤◌, ◌<◌, ◌%◌, max}
-use mathlib.Core.Path.{◌≡◌, refl, sym, ap, ◌∙◌}
-use mathlib.Core.Bool.{Bool, true, false}
-use mathlib.Core.List.{List, [], ◌∷◌}
-use mathlib.Core.Option.{Option, none, some}
-use native.Mathlib.Omega.{arith}
-use lib.ListN.{length, length-append, get_elem?, get_or}
-use lib.Dec.{ltb}
-use borrow.Author.Tests.{ltb-true, lt-ltb, ne_eqb}
+use Rattle.std.proofs.Common.{ℕ, zero, suc, ◌+◌, ◌*◌, ◌-◌, ◌≤◌, ◌<◌, ◌%◌, max, ◌≡◌, refl, sym, ap, ◌∙◌, Bool, true}
+use Rattle.std.proofs.Common.{false, List, [], ◌∷◌, arith, length, length-append, get_or, ltb, ltb-true, lt-ltb}
+use Rattle.std.proofs.Common.{ne_eqb}
+use Rattle.std.proofs.Math.Option.{Option, none, some}
+use lib.ListN.{get_elem?}
 use Rattle.lines.specs.Line.{choose}
 use Rattle.frames.specs.TableFrame.{term_room, path_room}
 use Rattle.places.specs.Place.{Place}
@@ -28,7 +24,7 @@ use Rattle.weights.specs.code.Rules as Rules
 use Rattle.weights.specs.code.Rules.{settled, resized, entering, by_leaf}
 use Rattle.looking.specs.code.Looking.{digit_at, is_split, is_side, taken, is_within, set_of}
 use Rattle.weighing.specs.code.Weigh.{by_digit, of_term}
-use Rattle.weights.specs.declared.Weighed.TheVariants.{Nothing}
+use Rattle.std.specs.Prelude.{None}
 use Rattle.control.proofs.Capped.{capped_small}
 use Rattle.weighing.proofs.Told.{number, From, weight, weight_of, wrapped, Single, some_behind}
 use Rattle.weighing.proofs.Told.{weight_none, τ-goes-on, visible_goes_on, weight_inside, weight_on}
@@ -304,12 +300,12 @@ module _ (ts : List Term) (l : Layout) (p x : List ℕ) (count : ℕ) (ds : List
     split_told nested at size qs (one ∷ a) s f u w e few =
         rw (opens k left i nested at size kind_is, f.0, next_at ds count at one f.0, next_term p i known, w)
         (rw (here, there) at (by_first p x count ds ts i v none none P Q s qs u (omega arith)
-        (capped (size + 2)) (whole size qs e few) k kind_is set_is a _ (λ from. Nothing)
+        (capped (size + 2)) (whole size qs e few) k kind_is set_is a _ (λ from. None)
         (entered_first left (suc i) P first v (suc at) a s f.1)))
     split_told nested at size qs (two ∷ a) s f u w e few =
         rw (opens k left i nested at size kind_is, f.0, next_at ds count at two f.0, w)
         (rw (here, there) at (by_second p x count ds ts i v none none P Q s qs u (omega arith)
-        (capped (size + 2)) (whole size qs e few) k kind_is set_is a _ (λ from. Nothing)
+        (capped (size + 2)) (whole size qs e few) k kind_is set_is a _ (λ from. None)
         (entered_first left (second p i) Q other v (suc at) a s f.1)))
     split_told nested at size qs (three ∷ a) s f u w e few =
         rw (opens k left i nested at size kind_is, f.0, next_at ds count at three f.0, next_term p i known)

@@ -2,16 +2,10 @@
 -- count that stops at 65,535. The sequences around a part carry its step on, each with a cell of its own, or
 -- where it ends the innermost starts its right: that is what `settled` makes of the part's weight. Assumes
 -- nothing.
-use Prim.Native.Nat.{ℕ, suc, ◌+◌, ◌-◌, ◌≤◌, ◌<◌}
-use mathlib.Core.Path.{◌≡◌, refl, sym, ap, subst, ◌∙◌}
-use mathlib.Core.Bool.{Bool, true, false, ◌&&◌}
-use mathlib.Core.List.{List, [], ◌∷◌, ◌++◌}
-use mathlib.Core.Option.{Option, none, some}
-use native.Mathlib.Omega.{arith}
+use Rattle.std.proofs.Common.{ℕ, suc, ◌+◌, ◌-◌, ◌≤◌, ◌<◌, ◌≡◌, refl, sym, ap, subst, ◌∙◌, Bool, true, false, ◌&&◌}
+use Rattle.std.proofs.Common.{List, [], ◌∷◌, ◌++◌, arith, length, length-append, get_or, ltb, ltb-true, le-ltb}
+use Rattle.std.proofs.Math.Option.{Option, none, some}
 use native.Mathlib.Nat.{zero-add}
-use lib.ListN.{length, length-append, get_or}
-use lib.Dec.{ltb}
-use borrow.Author.Tests.{ltb-true, le-ltb}
 use Rattle.lines.specs.Line.{choose}
 use Rattle.places.specs.Place.{Place}
 use Rattle.terms.specs.Term.{Term}
@@ -28,8 +22,8 @@ use Rattle.looking.specs.code.Looking.{digit_at}
 use Rattle.weights.specs.code.Rules as Rules
 use Rattle.weights.specs.code.Rules.{settled, resized}
 use Rattle.weights.specs.declared.Weight.{Weight}
-use Rattle.weights.specs.declared.Weighed.{Weighed}
-use Rattle.weights.specs.declared.Weighed.TheVariants.{Derived, Nothing}
+use Rattle.weights.specs.code.Rules.{Weighed}
+use Rattle.std.specs.Prelude.{Some, None}
 use Rattle.control.proofs.Capped.{capped_small, capped_left}
 
 unfoldable pub number : Digit → ℕ
@@ -56,8 +50,8 @@ weight count r a = record {
 }
 
 unfoldable pub weight_of : ℕ → Option Stepped → Weighed
-weight_of count none = Nothing
-weight_of count (some x) = Derived (weight count x.outcome x.unused)
+weight_of count none = None
+weight_of count (some x) = Some (weight count x.outcome x.unused)
 
 -- a part's step with the sequences around it, the innermost first
 unfoldable pub wrapped : List Behind → Option Stepped → Option Stepped
@@ -90,7 +84,7 @@ wrapped_none [] = refl
 wrapped_none (q ∷ qs) = wrapped_none qs
 
 -- a sequence around nothing
-pub weight_none : (count : ℕ) (qs : List Behind) → Nothing ≡ weight_of count (wrapped qs none)
+pub weight_none : (count : ℕ) (qs : List Behind) → None ≡ weight_of count (wrapped qs none)
 unfolding weight_of
 weight_none count qs = ap (weight_of count) (sym (wrapped_none qs))
 
@@ -125,7 +119,7 @@ wrapped_on (q ∷ qs) r a h =
 
 -- a step that does not end stays as it is
 quiet : (v : Event) → (v ≡ ✓ → ⊥) → (w : Weight) (b : Bool) → w.event ≡ v
-    → settled (Derived w) b ≡ Derived w
+    → settled (Some w) b ≡ Some w
 unfolding settled Rules.started
 quiet τ h w true e = rw e
 quiet τ h w false e = refl
@@ -136,7 +130,7 @@ quiet (visible n) h w false e = refl
 module _ (count : ℕ) where
   -- an outcome's weight, with the cells of the sequences around it, where its event is e
   abbrev pub weight_inside : List Behind → Event → Outcome → Address → Weighed
-  weight_inside qs e r a = Derived (resized e (capped (length qs + cells r.process)) (weight count r a))
+  weight_inside qs e r a = Some (resized e (capped (length qs + cells r.process)) (weight count r a))
 
   -- what a step that does not end weighs with the sequences around it
   pub weight_on : (qs : List Behind) (r : Outcome) (a : Address) → (r.event ≡ ✓ → ⊥)

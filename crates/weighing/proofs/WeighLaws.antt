@@ -1,12 +1,7 @@
 -- The weight of a term, and of what stands at a reference, by what the tests on the way found: out of
 -- levels, a sequence, a leaf, a digit that names no side, one side, or both. Each call's answer is given
 -- by a name and its equation, as the code has it. Assumes nothing.
-use Prim.Native.Nat.{ℕ, suc, ◌+◌, ◌-◌}
-use mathlib.Core.Path.{◌≡◌, sym, ◌∙◌}
-use mathlib.Core.Bool.{Bool, true, false, not}
-use mathlib.Core.List.{List}
-use lib.Dec.{eqb}
-use borrow.Author.Tests.{eq-eqb, ne_eqb}
+use Rattle.std.proofs.Common.{ℕ, suc, ◌+◌, ◌-◌, ◌≡◌, sym, ◌∙◌, Bool, true, false, not, List, eqb, eq-eqb, ne_eqb}
 use Rattle.kinds.specs.Kind as Kind
 use Rattle.plans.specs.words.Plan.{kind, operand, second, around}
 use Rattle.control.specs.words.Words.{node}
@@ -16,13 +11,13 @@ use Rattle.weights.specs.code.Rules.{by_leaf, entering, end_of, one, both}
 use Rattle.looking.specs.code.Looking.{digit_at, is_split, is_side, taken, is_within, set_of, inside}
 use Rattle.weighing.specs.code.Ending.{weigh_end}
 use Rattle.weighing.specs.code.Weigh.{levels, by_digit, of_term, at_reference}
-use Rattle.weights.specs.declared.Weighed.{Weighed}
-use Rattle.weights.specs.declared.Weighed.TheVariants.{Nothing}
+use Rattle.weights.specs.code.Rules.{Weighed}
+use Rattle.std.specs.Prelude.{None}
 
 -- a split's step by a digit
 module _ (p x : List ℕ) (count : ℕ) (ds : List ℕ) (d t : ℕ) (found : Weighed) (across : ℕ → Weighed)
     (size own other : ℕ) (within : Bool) where
-  astray : is_side d ≡ false → Nothing ≡ by_digit p x count ds d t found across size own other within
+  astray : is_side d ≡ false → None ≡ by_digit p x count ds d t found across size own other within
   unfolding by_digit
   astray h = simp h
 
@@ -67,7 +62,7 @@ pub record Sided (p x : List ℕ) (count : ℕ) (ds : List ℕ) (t at size less 
 
 -- a term that no step has touched
 module _ (p x : List ℕ) (count : ℕ) (ds : List ℕ) (left t : ℕ) (nested : Bool) (at size : ℕ) where
-  pub term_spent : left ≡ 0 → Nothing ≡ of_term p x count ds left t nested at size
+  pub term_spent : left ≡ 0 → None ≡ of_term p x count ds left t nested at size
   unfolding of_term
   term_spent h = rw h
 
@@ -104,7 +99,7 @@ module _ {p x : List ℕ} {count : ℕ} {ds : List ℕ} {left t : ℕ} {nested :
         rw (l.digit_is, l.within_is, l.around_is, l.more) (simp (no_sequence, there))
 
     module _ {s : Bool} (s_is : s ≡ is_side d) where
-      pub term_astray : s ≡ false → Nothing ≡ of_term p x count ds left t nested at size
+      pub term_astray : s ≡ false → None ≡ of_term p x count ds left t nested at size
       term_astray h = rw by_sides (astray p x count ds d t _ _ _ _ _ _ (sym s_is ∙ h))
 
       module _ (side : s ≡ true) {j set larger : ℕ} {found : Weighed}
@@ -167,7 +162,7 @@ pub record Crossed (p x : List ℕ) (count : ℕ) (ds w g : List ℕ) (arcs n at
 
 -- what stands at a reference
 module _ (p x : List ℕ) (count : ℕ) (ds w g : List ℕ) (arcs left n t bound at size : ℕ) where
-  pub at_spent : left ≡ 0 → Nothing ≡ at_reference p x count ds w g arcs left n t bound at size
+  pub at_spent : left ≡ 0 → None ≡ at_reference p x count ds w g arcs left n t bound at size
   unfolding at_reference
   at_spent h = rw h
 
@@ -187,7 +182,7 @@ module _ {p x : List ℕ} {count : ℕ} {ds w g : List ℕ} {arcs left n t bound
       (simp (ne_eqb n 0 l.there, eq-eqb (state w n) resting (sym l.state_is ∙ h)))
 
   pub at_an_end : (s ≡ resting → ⊥) → (s ≡ entered → ⊥)
-      → Nothing ≡ at_reference p x count ds w g arcs left n t bound at size
+      → None ≡ at_reference p x count ds w g arcs left n t bound at size
   unfolding at_reference
   at_an_end h e =
       let stirred = ne_eqb (state w n) resting (λ z. h (l.state_is ∙ z)) in
@@ -226,7 +221,7 @@ module _ {p x : List ℕ} {count : ℕ} {ds w g : List ℕ} {arcs left n t bound
         (rw l.standing.more (simp (present, open_there, on)))
 
     module _ {b : Bool} (b_is : b ≡ is_side d) where
-      pub at_astray : b ≡ false → Nothing ≡ at_reference p x count ds w g arcs left n t bound at size
+      pub at_astray : b ≡ false → None ≡ at_reference p x count ds w g arcs left n t bound at size
       at_astray h = rw at_sides (astray p x count ds d u _ _ _ _ _ _ (sym b_is ∙ h))
 
       module _ (named : b ≡ true) {j set e own other : ℕ} {found : Weighed}

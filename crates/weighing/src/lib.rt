@@ -13,7 +13,7 @@ use control::{
 use looking::{digit_at, inside_of, is_side, is_split, is_within, parents, taken};
 use plans::{PARALLEL_WORD, Plan, SEQUENCE_WORD, around_of, kind_of, operand_of, second_of};
 use scripts::Digits;
-use weights::{Weighed, both, by_leaf, end_of, ended, entering, one};
+use weights::{Weight, both, by_leaf, end_of, ended, entering, one};
 
 // How many levels of a term are gone down to, at most: a path has at most 64 digits.
 const WEIGH_LEVELS: usize = 66;
@@ -30,12 +30,12 @@ fn weigh_term(
     digits: &Digits,
     plan: &Plan,
     sets: &Payloads,
-) -> Weighed
+) -> Option<Weight>
     ensures { result ≡ spec.of_term plan.now sets.now count digits.now
         left t nested at size }
 {
     if left == 0 {
-        return Weighed::Nothing;
+        return None;
     }
     let kind = kind_of(t, plan);
     let less = left - 1;
@@ -50,7 +50,7 @@ fn weigh_term(
         return by_leaf(kind, operand_of(t, plan), digit, within, at, size);
     }
     if !is_side(digit) {
-        return Weighed::Nothing;
+        return None;
     }
     let second = second_of(t, plan);
     let next = sum(at, 1);
@@ -88,12 +88,12 @@ pub fn weigh_at(
     sets: &Payloads,
     nodes: &Nodes,
     track: &Track,
-) -> Weighed
+) -> Option<Weight>
     ensures { result ≡ spec.at_reference plan.now sets.now count digits.now
         nodes.now track.now arcs left n t bound at size }
 {
     if left == 0 {
-        return Weighed::Nothing;
+        return None;
     }
     if n == 0 {
         let found = weigh_term(t, false, at, 1, WEIGH_LEVELS, count, digits, plan, sets);
@@ -116,7 +116,7 @@ pub fn weigh_at(
         );
     }
     if state != ENTERED {
-        return Weighed::Nothing;
+        return None;
     }
     let kind = kind_of(term, plan);
     let digit = digit_at(at, count, digits);
@@ -125,7 +125,7 @@ pub fn weigh_at(
         return weigh_end(n, kind, at, size, within, arcs, nodes, track);
     }
     if !is_side(digit) {
-        return Weighed::Nothing;
+        return None;
     }
     let second = second_of(term, plan);
     let next = sum(at, 1);
@@ -161,19 +161,16 @@ fn weigh_end(
     arcs: usize,
     nodes: &Nodes,
     track: &Track,
-) -> Weighed
+) -> Option<Weight>
     ensures { result ≡ ending.weigh_end nodes.now track.now arcs n kind at size within }
 {
     if kind != PARALLEL_WORD {
-        return Weighed::Nothing;
+        return None;
     }
     let first = word(n, SIDES + 1, nodes);
     let second = word(n, SIDES + 2, nodes);
-    if word(first, STATE, nodes) != OMEGA {
-        return Weighed::Nothing;
-    }
-    if word(second, STATE, nodes) != OMEGA {
-        return Weighed::Nothing;
+    if word(first, STATE, nodes) != OMEGA || word(second, STATE, nodes) != OMEGA {
+        return None;
     }
     ended(at, size, parents(first, second, arcs, track), within)
 }

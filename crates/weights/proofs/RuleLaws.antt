@@ -1,20 +1,19 @@
 -- What each rule makes of the weights of its premises, by what its tests found: whether there is a weight,
 -- the kind, and the event. Assumes nothing.
-use Prim.Native.Nat.{ℕ, ◌+◌, ◌*◌, ◌-◌, ◌%◌, ◌≤◌, ◌<◌}
-use mathlib.Core.Path.{◌≡◌, refl}
-use mathlib.Core.Bool.{Bool, true, false}
-use native.Mathlib.Omega.{arith}
-use borrow.Author.Tests.{le-leb, lt-leb, eq-eqb, ne_eqb}
+use Rattle.std.proofs.Common.{ℕ, zero, suc, ◌+◌, ◌*◌, ◌-◌, ◌%◌, ◌≤◌, ◌<◌, ◌≡◌, refl, Bool, true, false, eqb, arith}
+use Rattle.std.proofs.Common.{le-leb, eq-eqb, ne_eqb}
+use mathlib.Core.Bool.{and-false}
+use borrow.Author.Tests.{lt-leb}
 use Rattle.kinds.specs.Kind as Kind
 use Rattle.sets.specs.EventSet.{member}
 use Rattle.rules.specs.declared.Event.{Event}
 use Rattle.rules.specs.declared.Event.TheVariants.{Tau, Tick, Visible}
 use Rattle.control.specs.words.Sums.{capped}
-use Rattle.weights.specs.code.Rules.{step, started, settled, by_leaf, entering, end_of, barred, stays}
+use Rattle.weights.specs.code.Rules.{step, started, settled, by_leaf, barred, stays}
 use Rattle.weights.specs.code.Rules.{shown, resized, one, agree, both, ended}
 use Rattle.weights.specs.declared.Weight.{Weight}
-use Rattle.weights.specs.declared.Weighed.{Weighed}
-use Rattle.weights.specs.declared.Weighed.TheVariants.{Derived, Nothing}
+use Rattle.weights.specs.code.Rules.{Weighed}
+use Rattle.std.specs.Prelude.{Some, None}
 
 -- an event is no ✓, and it is none that is shown
 abbrev pub NoTick : Event → Type 0
@@ -44,7 +43,7 @@ module _ (k operand d : ℕ) (within : Bool) (at size : ℕ) where
   STOP_leaf h = rw h
 
   pub no_leaf : (k ≡ Kind.prefix → ⊥) → (k ≡ Kind.SKIP → ⊥) → (k ≡ Kind.call → ⊥) → (k ≡ Kind.STOP → ⊥)
-      → (k ≡ Kind.internal → ⊥) → Nothing ≡ by_leaf k operand d within at size
+      → (k ≡ Kind.internal → ⊥) → None ≡ by_leaf k operand d within at size
   unfolding by_leaf
   no_leaf p s c t i = simp (
     ne_eqb k Kind.prefix p,
@@ -55,13 +54,22 @@ module _ (k operand d : ℕ) (within : Bool) (at size : ℕ) where
   )
 
   module _ (is : k ≡ Kind.internal) where
-    pub no_digit : d ≡ 0 → Nothing ≡ by_leaf k operand d within at size
+    no_digit : d ≡ 0 → None ≡ by_leaf k operand d within at size
     unfolding by_leaf
     no_digit h = rw (is, h)
 
-    pub no_side : 2 < d → Nothing ≡ by_leaf k operand d within at size
+    no_side : 2 < d → None ≡ by_leaf k operand d within at size
     unfolding by_leaf
     no_side h = rw is (simp (le-leb 1 d (omega arith), lt-leb d 2 h))
+
+    pub no_choice : (d ≡ 1 → ⊥) → (d ≡ 2 → ⊥) → None ≡ by_leaf k operand d within at size
+    no_choice one two = go d refl
+      where
+        go : (e : ℕ) → d ≡ e → None ≡ by_leaf k operand d within at size
+        go zero e = no_digit e
+        go (suc zero) e = absurd (one e)
+        go (suc (suc zero)) e = absurd (two e)
+        go (suc (suc (suc n))) e = no_side (omega arith)
 
     pub chosen_leaf : (d ≡ 0 → ⊥) → d ≤ 2 → (i : ℕ) (y : Weighed) → i ≡ capped (at + 1)
         → y ≡ step Tau i size 1 0 → y ≡ by_leaf k operand d within at size
@@ -69,30 +77,30 @@ module _ (k operand d : ℕ) (within : Bool) (at size : ℕ) where
     chosen_leaf h j i y p q = rw (is, q, p) (simp (le-leb 1 d (omega arith), le-leb d 2 j))
 
 -- a ✓ starts a sequence's right, another event starts nothing
-unless_tick : (e : Event) (w : Weight) → NoTick e → Derived w ≡ started e w
+unless_tick : (e : Event) (w : Weight) → NoTick e → Some w ≡ started e w
 unfolding started
 unless_tick Tau w t = refl
 unless_tick (Visible e) w t = refl
 unless_tick Tick w t = absurd (t refl)
 
 module _ (found : Weighed) (within : Bool) where
-  pub settled_nothing : found ≡ Nothing → found ≡ settled found within
+  pub settled_nothing : found ≡ None → None ≡ settled found within
   unfolding settled
   settled_nothing h = rw h
 
-  module _ (w : Weight) (is : found ≡ Derived w) where
-    pub settled_outside : within ≡ false → Derived w ≡ settled found within
+  module _ (w : Weight) (is : found ≡ Some w) where
+    pub settled_outside : within ≡ false → Some w ≡ settled found within
     unfolding settled
     settled_outside h = rw (is, h)
 
     module _ (inside : within ≡ true) where
-      pub settled_on : NoTick w.event → Derived w ≡ settled found within
+      pub settled_on : NoTick w.event → Some w ≡ settled found within
       unfolding settled
       settled_on t = rw (is, inside) (unless_tick w.event w t)
 
       pub settled_tick : w.event ≡ Tick → (s n a : ℕ) → s ≡ w.size - 1 → n ≡ capped (w.nodes + 1)
           → a ≡ capped (w.arcs + 1)
-          → Derived (record {
+          → Some (record {
             event = Tau;
             at = w.at;
             size = s;
@@ -104,33 +112,6 @@ module _ (found : Weighed) (within : Bool) where
       unfolding settled started
       settled_tick e s n a p q r = rw (is, inside, e, p, q, r)
 
-module _ (found : Weighed) where
-  pub entering_nothing : (n : ℕ) → found ≡ Nothing → found ≡ entering found n
-  unfolding entering
-  entering_nothing n h = rw h
-
-  pub entering_side : (m : ℕ) (w : Weight) → found ≡ Derived w → (n a : ℕ) → n ≡ capped (w.nodes + m)
-      → a ≡ capped (w.arcs + 1)
-      → Derived (record {
-        event = w.event;
-        at = w.at;
-        size = w.size;
-        nodes = n;
-        arcs = a;
-        meetings = w.meetings;
-        met = w.met;
-      }) ≡ entering found m
-  unfolding entering
-  entering_side m w is n a p q = rw (is, p, q)
-
-  pub end_derived : (count : ℕ) (w : Weight) → found ≡ Derived w → w.at ≡ end_of found count
-  unfolding end_of
-  end_derived count w is = rw is
-
-  pub end_nothing : (count : ℕ) → found ≡ Nothing → count ≡ end_of found count
-  unfolding end_of
-  end_nothing count is = rw is
-
 -- a split, by its kind and the event of its side
 module _ (k : ℕ) (other : k ≡ Kind.parallel → ⊥) where
   pub free_choice : (x : ℕ) (e : Event) → false ≡ barred k x e
@@ -139,48 +120,32 @@ module _ (k : ℕ) (other : k ≡ Kind.parallel → ⊥) where
   free_choice x Tick = refl
   free_choice x (Visible v) = simp (ne_eqb k Kind.parallel other)
 
-  pub choice_shows : (e : Event) → e ≡ shown k e
+  pub choice_shows : (e : Event) → e ≡ Tick → Tick ≡ shown k e
   unfolding shown
-  choice_shows Tau = refl
-  choice_shows Tick = simp (ne_eqb k Kind.parallel other)
-  choice_shows (Visible v) = refl
+  choice_shows e h = rw h (simp (ne_eqb k Kind.parallel other))
 
-  pub choice_ends : (e : Event) → e ≡ Tick → false ≡ stays k e
+  pub choice_ends : (e : Event) → (e ≡ Tau → ⊥) → false ≡ stays k e
   unfolding stays
-  choice_ends e h = rw h (simp (ne_eqb k Kind.parallel other))
-
-  pub choice_resolves : (e : Event) (v : ℕ) → e ≡ Visible v → false ≡ stays k e
-  unfolding stays
-  choice_resolves e v h = rw h (simp (ne_eqb k Kind.parallel other))
-
-  pub choice_parts : (x : ℕ) (e f : Event) → false ≡ agree k x e f
-  unfolding agree
-  choice_parts x Tau f = refl
-  choice_parts x Tick f = refl
-  choice_parts x (Visible a) Tau = refl
-  choice_parts x (Visible a) Tick = refl
-  choice_parts x (Visible a) (Visible b) = simp (ne_eqb k Kind.parallel other)
+  choice_ends Tau h = absurd (h refl)
+  choice_ends Tick h = simp (ne_eqb k Kind.parallel other)
+  choice_ends (Visible v) h = simp (ne_eqb k Kind.parallel other)
 
 module _ (k : ℕ) where
-  pub free_tau : (x : ℕ) (e : Event) → e ≡ Tau → false ≡ barred k x e
+  pub free_silent : (x : ℕ) (e : Event) → NotVisible e → false ≡ barred k x e
   unfolding barred
-  free_tau x e h = rw h
-
-  pub free_tick : (x : ℕ) (e : Event) → e ≡ Tick → false ≡ barred k x e
-  unfolding barred
-  free_tick x e h = rw h
+  free_silent x Tau h = refl
+  free_silent x Tick h = refl
+  free_silent x (Visible v) h = absurd (h v refl)
 
   pub stays_tau : (e : Event) → e ≡ Tau → true ≡ stays k e
   unfolding stays
   stays_tau e h = rw h
 
-  pub shows_tau : (e : Event) → e ≡ Tau → Tau ≡ shown k e
+  pub shows_on : (e : Event) → NoTick e → e ≡ shown k e
   unfolding shown
-  shows_tau e h = rw h
-
-  pub shows_visible : (e : Event) (v : ℕ) → e ≡ Visible v → Visible v ≡ shown k e
-  unfolding shown
-  shows_visible e v h = rw h
+  shows_on Tau t = refl
+  shows_on Tick t = absurd (t refl)
+  shows_on (Visible v) t = refl
 
   pub parts_silent : (x : ℕ) (e f : Event) → NotVisible e → false ≡ agree k x e f
   unfolding agree
@@ -212,53 +177,52 @@ module _ (k : ℕ) where
     unfolding barred
     barred_visible x e v h = rw (h, parallel)
 
-    module _ (x : ℕ) (e f : Event) (a b : ℕ) (left : e ≡ Visible a) (right : f ≡ Visible b) where
-      pub parts_apart : (a ≡ b → ⊥) → false ≡ agree k x e f
-      unfolding agree
-      parts_apart h = rw (left, right, parallel) (simp (ne_eqb a b h))
+  module _ (x : ℕ) (e f : Event) (a b : ℕ) (left : e ≡ Visible a) (right : f ≡ Visible b) where
+    pub parts_apart : (a ≡ b → ⊥) → false ≡ agree k x e f
+    unfolding agree
+    parts_apart h = rw (left, right) (simp (ne_eqb a b h, and-false (eqb k Kind.parallel)))
 
-      pub agree_on : a ≡ b → member a x ≡ agree k x e f
-      unfolding agree
-      agree_on h = rw (left, right, parallel) (simp (eq-eqb a b h))
+    pub agree_on : a ≡ b → barred k x e ≡ agree k x e f
+    unfolding agree barred
+    agree_on h = rw (left, right) (simp (eq-eqb a b h))
 
 -- a split's rules for one side's step
 module _ (k x : ℕ) (found : Weighed) (size own other : ℕ) (within : Bool) where
-  pub one_nothing : found ≡ Nothing → found ≡ one k x found size own other within
+  pub one_nothing : found ≡ None → None ≡ one k x found size own other within
   unfolding one
   one_nothing h = rw h
 
-  module _ (w : Weight) (is : found ≡ Derived w) where
-    pub one_barred : barred k x w.event ≡ true → Nothing ≡ one k x found size own other within
+  module _ (w : Weight) (is : found ≡ Some w) where
+    pub one_barred : barred k x w.event ≡ true → None ≡ one k x found size own other within
     unfolding one
     one_barred h = rw (is, h)
 
     module _ (free : barred k x w.event ≡ false) where
-      pub one_stays : stays k w.event ≡ true → (e : Event) (r s : ℕ) (v : Weight) → r ≡ size - own
-          → s ≡ capped (r + w.size) → e ≡ shown k w.event → v ≡ resized e s w
-          → Derived v ≡ one k x found size own other within
+      pub one_stays : stays k w.event ≡ true → (e : Event) (r s : ℕ) → r ≡ size - own
+          → s ≡ capped (r + w.size) → e ≡ shown k w.event → Some (resized e s w) ≡ one k x found size own other within
       unfolding one
-      one_stays h e r s v p q z t = rw (is, free, h, t, z, q, p)
+      one_stays h e r s p q z = rw (is, free, h, z, q, p)
 
-      pub one_resolves : stays k w.event ≡ false → (r s t u : ℕ) (v : Weight) (y : Weighed)
-          → r ≡ size - own → s ≡ r - other → t ≡ s - 1 → u ≡ capped (t + w.size) → v ≡ resized w.event u w
-          → y ≡ settled (Derived v) within → y ≡ one k x found size own other within
+      pub one_resolves : stays k w.event ≡ false → (r s t u : ℕ) (y : Weighed)
+          → r ≡ size - own → s ≡ r - other → t ≡ s - 1 → u ≡ capped (t + w.size)
+          → y ≡ settled (Some (resized w.event u w)) within → y ≡ one k x found size own other within
       unfolding one
-      one_resolves h r s t u v y p q l m z e = rw (is, free, h, e, z, m, l, q, p)
+      one_resolves h r s t u y p q l m e = rw (is, free, h, e, m, l, q, p)
 
 -- a parallel's rule for a joint step
 module _ (k x : ℕ) (left right : Weighed) (size own other : ℕ) where
-  pub both_nothing : left ≡ Nothing → Nothing ≡ both k x left right size own other
+  pub both_nothing : left ≡ None → None ≡ both k x left right size own other
   unfolding both
   both_nothing h = rw h
 
-  module _ (l : Weight) (is : left ≡ Derived l) where
-    pub both_half : right ≡ Nothing → Nothing ≡ both k x left right size own other
+  module _ (l : Weight) (is : left ≡ Some l) where
+    pub both_half : right ≡ None → None ≡ both k x left right size own other
     unfolding both
     both_half h = rw (is, h)
 
-    module _ (r : Weight) (across : right ≡ Derived r) where
+    module _ (r : Weight) (across : right ≡ Some r) where
       pub both_apart : agree k x l.event r.event ≡ false
-          → Nothing ≡ both k x left right size own other
+          → None ≡ both k x left right size own other
       unfolding both
       both_apart h = rw (is, across, h)
 
@@ -267,7 +231,7 @@ module _ (k x : ℕ) (left right : Weighed) (size own other : ℕ) where
           → n ≡ capped (l.nodes + r.nodes) → a ≡ capped (l.arcs + r.arcs)
           → p ≡ capped (l.meetings + r.meetings) → q ≡ capped (l.met * r.met) → m ≡ capped (p + q)
           → d ≡ capped (l.met + r.met)
-          → Derived (record {
+          → Some (record {
             event = l.event;
             at = r.at;
             size = t;
@@ -284,7 +248,7 @@ module _ (k x : ℕ) (left right : Weighed) (size own other : ℕ) where
 pub ended_settles : (at size parents : ℕ) (within : Bool) (i j : ℕ) (y : Weighed) → i ≡ capped (at + 1)
     → j ≡ size - 2
     → y ≡ settled
-    (Derived (record {
+    (Some (record {
       event = Tick;
       at = i;
       size = j;

@@ -22,18 +22,11 @@ pub struct Weight {
     pub met: usize,
 }
 
-// A derivation's weight, or that there is none.
-#[derive(Clone, Copy)]
-pub enum Weighed {
-    Derived(Weight),
-    Nothing,
-}
-
 // A step that labels and draws as often as it says, inside nothing.
-fn step(event: Event, at: usize, size: usize, count: usize, met: usize) -> Weighed
+fn step(event: Event, at: usize, size: usize, count: usize, met: usize) -> Option<Weight>
     ensures { result ≡ spec.step event at size count met }
 {
-    Weighed::Derived(Weight {
+    Some(Weight {
         event,
         at,
         size,
@@ -52,143 +45,104 @@ pub fn by_leaf(
     within: bool,
     at: usize,
     size: usize,
-) -> Weighed
+) -> Option<Weight>
     ensures { result ≡ spec.by_leaf kind operand digit within at size }
 {
     if kind == PREFIX_WORD {
-        return step(Event::Visible((operand % 256) as u8), at, size, 2, 1);
+        step(Event::Visible((operand % 256) as u8), at, size, 2, 1)
+    } else if kind == SKIP_WORD {
+        settled(step(Event::Tick, at, size, 1, 0), within)
+    } else if kind == CALL_WORD || kind == STOP_WORD {
+        step(Event::Tau, at, size, 1, 0)
+    } else if kind == INTERNAL_WORD && (digit == 1 || digit == 2) {
+        step(Event::Tau, sum(at, 1), size, 1, 0)
+    } else {
+        None
     }
-    if kind == SKIP_WORD {
-        return settled(step(Event::Tick, at, size, 1, 0), within);
-    }
-    if kind == CALL_WORD {
-        return step(Event::Tau, at, size, 1, 0);
-    }
-    if kind == STOP_WORD {
-        return step(Event::Tau, at, size, 1, 0);
-    }
-    if kind != INTERNAL_WORD {
-        return Weighed::Nothing;
-    }
-    if digit == 0 {
-        return Weighed::Nothing;
-    }
-    if 2 < digit {
-        return Weighed::Nothing;
-    }
-    step(Event::Tau, sum(at, 1), size, 1, 0)
 }
 
 // A ✓ inside a sequence starts its right, and shows as τ.
-fn settled(found: Weighed, within: bool) -> Weighed
+fn settled(found: Option<Weight>, within: bool) -> Option<Weight>
     ensures { result ≡ spec.settled found within }
 {
-    let Weighed::Derived(w) = found else {
-        return found;
-    };
-    if !within {
+    let w = found?;
+    if !within || !matches!(w.event, Event::Tick) {
         return found;
     }
-    let event = w.event;
-    let Event::Tick = event else {
-        return found;
-    };
-    Weighed::Derived(Weight {
+    Some(Weight {
         event: Event::Tau,
-        at: w.at,
         size: less(w.size, 1),
         nodes: sum(w.nodes, 1),
         arcs: sum(w.arcs, 1),
-        meetings: w.meetings,
         met: 0,
+        ..w
     })
 }
 
 // A side that is entered: so many labels, and an arc.
-pub fn entering(found: Weighed, nodes: usize) -> Weighed
+pub fn entering(found: Option<Weight>, nodes: usize) -> Option<Weight>
     ensures { result ≡ spec.entering found nodes }
 {
-    let Weighed::Derived(w) = found else {
-        return found;
-    };
-    let event = w.event;
-    Weighed::Derived(Weight {
-        event,
-        at: w.at,
-        size: w.size,
+    found.map(|w| Weight {
         nodes: sum(w.nodes, nodes),
         arcs: sum(w.arcs, 1),
-        meetings: w.meetings,
-        met: w.met,
+        ..w
     })
 }
 
 // Where the digits of a derivation end; behind all of them where there is none.
-pub fn end_of(found: Weighed, count: usize) -> usize
+pub fn end_of(found: Option<Weight>, count: usize) -> usize
     ensures { result ≡ spec.end_of found count }
 {
-    match found {
-        Weighed::Derived(w) => w.at,
-        Weighed::Nothing => count,
-    }
+    found.map_or(count, |w| w.at)
 }
 
 // A split's rules for one side's step: of `size` cells in all, that side had `own` and the other has `other`.
 pub fn one(
     kind: usize,
     set: u64,
-    found: Weighed,
+    found: Option<Weight>,
     size: usize,
     own: usize,
     other: usize,
     within: bool,
-) -> Weighed
+) -> Option<Weight>
     ensures { result ≡ spec.one kind set found size own other within }
 {
-    let Weighed::Derived(w) = found else {
-        return found;
-    };
-    let event = w.event;
-    if is_barred(kind, set, event) {
-        return Weighed::Nothing;
+    let w = found?;
+    if is_barred(kind, set, w.event) {
+        return None;
     }
-    if stays(kind, event) {
-        let new_size = sum(less(size, own), w.size);
-        return Weighed::Derived(resized(shown(kind, event), new_size, w));
+    if stays(kind, w.event) {
+        let size = sum(less(size, own), w.size);
+        let event = shown(kind, w.event);
+        return Some(Weight { event, size, ..w });
     }
     let rest = less(less(less(size, own), other), 1);
-    settled(
-        Weighed::Derived(resized(event, sum(rest, w.size), w)),
-        within,
-    )
+    let size = sum(rest, w.size);
+    settled(Some(Weight { size, ..w }), within)
 }
 
 // A parallel's rule for a joint step, the left's part first.
 pub fn both(
     kind: usize,
     set: u64,
-    left: Weighed,
-    right: Weighed,
+    left: Option<Weight>,
+    right: Option<Weight>,
     size: usize,
     own: usize,
     other: usize,
-) -> Weighed
+) -> Option<Weight>
     ensures { result ≡ spec.both kind set left right size own other }
 {
-    let Weighed::Derived(l) = left else {
-        return Weighed::Nothing;
-    };
-    let Weighed::Derived(r) = right else {
-        return Weighed::Nothing;
-    };
-    let event = l.event;
-    let across = r.event;
-    if !agree(kind, set, event, across) {
-        return Weighed::Nothing;
+    let l = left?;
+    let r = right?;
+    if !agree(kind, set, l.event, r.event) {
+        return None;
     }
     let rest = less(less(size, own), other);
-    Weighed::Derived(Weight {
-        event,
+    Some(Weight {
+        event: l.event,
         at: r.at,
         size: sum(sum(rest, l.size), r.size),
         nodes: sum(l.nodes, r.nodes),
@@ -199,7 +153,7 @@ pub fn both(
 }
 
 // A parallel's rule for two sides that have ended, whose last references have so many parents.
-pub fn ended(at: usize, size: usize, parents: usize, within: bool) -> Weighed
+pub fn ended(at: usize, size: usize, parents: usize, within: bool) -> Option<Weight>
     ensures { result ≡ spec.ended at size parents within }
 {
     let end = Weight {
@@ -211,62 +165,37 @@ pub fn ended(at: usize, size: usize, parents: usize, within: bool) -> Weighed
         meetings: 0,
         met: 0,
     };
-    settled(Weighed::Derived(end), within)
-}
-
-fn resized(event: Event, size: usize, w: Weight) -> Weight
-    ensures { result ≡ spec.resized event size w }
-{
-    Weight {
-        event,
-        at: w.at,
-        size,
-        nodes: w.nodes,
-        arcs: w.arcs,
-        meetings: w.meetings,
-        met: w.met,
-    }
+    settled(Some(end), within)
 }
 
 // A parallel lets no event of its set through that only one side does.
 fn is_barred(kind: usize, set: u64, event: Event) -> bool
     ensures { result ≡ spec.barred kind set event }
 {
-    if kind != PARALLEL_WORD {
+    let Event::Visible(e) = event else {
         return false;
-    }
-    match event {
-        Event::Tau => false,
-        Event::Tick => false,
-        Event::Visible(e) => has(set, e),
-    }
+    };
+    kind == PARALLEL_WORD && has(set, e)
 }
 
 // A parallel stays whatever its side shows, a choice on τ.
 pub fn stays(kind: usize, event: Event) -> bool
     ensures { result ≡ spec.stays kind event }
 {
-    if kind == PARALLEL_WORD {
-        return true;
-    }
-    match event {
-        Event::Tau => true,
-        Event::Tick => false,
-        Event::Visible(_) => false,
-    }
+    kind == PARALLEL_WORD || matches!(event, Event::Tau)
 }
 
 // A side's ✓ shows as τ through a parallel.
 pub fn shown(kind: usize, event: Event) -> Event
     ensures { result ≡ spec.shown kind event }
 {
-    if kind != PARALLEL_WORD {
+    let Event::Tick = event else {
         return event;
-    }
-    match event {
-        Event::Tau => Event::Tau,
-        Event::Tick => Event::Tau,
-        Event::Visible(e) => Event::Visible(e),
+    };
+    if kind == PARALLEL_WORD {
+        Event::Tau
+    } else {
+        Event::Tick
     }
 }
 
@@ -274,17 +203,8 @@ pub fn shown(kind: usize, event: Event) -> Event
 fn agree(kind: usize, set: u64, left: Event, right: Event) -> bool
     ensures { result ≡ spec.agree kind set left right }
 {
-    if kind != PARALLEL_WORD {
-        return false;
+    match (left, right) {
+        (Event::Visible(a), Event::Visible(b)) => a == b && is_barred(kind, set, left),
+        _ => false,
     }
-    let Event::Visible(a) = left else {
-        return false;
-    };
-    let Event::Visible(b) = right else {
-        return false;
-    };
-    if a != b {
-        return false;
-    }
-    has(set, a)
 }

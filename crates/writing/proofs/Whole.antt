@@ -1,13 +1,10 @@
 -- The text of a graph in columns is its opening line, the lines of nodes, arcs and meetings, and the last line,
 -- put one behind another; its length is theirs. Where the slice has that length the answer is that the text was
--- written, and else it is the length alone. Assumes nothing.
-use Prim.Native.Nat.{ℕ, ◌+◌, ◌*◌, ◌≤◌, ◌<◌, min}
-use mathlib.Core.Path.{◌≡◌, ap, ◌∙◌}
-use mathlib.Core.List.{List, [], ◌∷◌, ◌++◌, map}
-use native.Mathlib.Omega.{arith}
-use lib.ListN.{length}
-use lib.Seq.{sets}
-use borrow.Author.Tests.{le-leb, lt-leb}
+-- written, and else it is the length alone. And an answer of code tells one outcome. Assumes nothing.
+use Rattle.std.specs.Prelude.{ℕ, ◌+◌, ◌*◌, ◌≤◌, ◌<◌, min, List, [], ◌∷◌, ◌++◌, map, length, Result, Ok, Err, ◌≡◌}
+use Rattle.std.proofs.Common.{ap, ◌∙◌, arith, le-leb}
+use Rattle.std.proofs.lemmas.Bool.{lt-leb}
+use Rattle.std.proofs.lemmas.List.Edits.{sets}
 use Rattle.lines.specs.Line.{two, text}
 use Rattle.spelling.specs.words.Puts.{Puts}
 use Rattle.spelling.proofs.Putting.{puts_then}
@@ -21,7 +18,8 @@ use Rattle.graphs.specs.Saved.{opening_frame, node_frame, pair_frame, arc_code, 
 use Rattle.graphs.specs.Saved.{frames, graph_text}
 use Rattle.graphs.proofs.Spelled.{nodes_length, text_length}
 use Rattle.links.specs.declared.GraphCounts.{GraphCounts}
-use Rattle.writing.specs.declared.Saved.TheVariants.{Written, Short}
+use Rattle.writing.specs.declared.TooShort.{TooShort}
+use Rattle.writing.specs.Answers.{Written, Short, saved_told}
 use Rattle.framing.specs.words.Told.{labels_told, graph_told}
 use Rattle.writing.specs.words.Slice.{with_slice, written}
 use Rattle.framing.proofs.Spelt.{pairs_count, nodes_count}
@@ -95,3 +93,14 @@ module _ (t slice : List ℕ) (size : ℕ) (sized : size ≡ length t) where
   -- one that does not leaves the slice as it was
   pub falls_short : length slice < size → with_slice (Short size) slice ≡ written t slice
   falls_short h = rw (written_short t slice (omega arith), sized)
+
+-- an answer of code tells one outcome
+pub saved_told_once : (x y : Result ℕ TooShort) → saved_told x ≡ saved_told y → x ≡ y
+unfolding saved_told
+saved_told_once (Ok m) (Ok n) same = let length : m ≡ n = cc in ap (λ q. Ok q) length
+saved_told_once (Ok m) (Err e) same = let z : ◌≡◌ {A = ℕ} 0 1 = cc in absurd (omega arith)
+saved_told_once (Err e) (Ok m) same = let z : ◌≡◌ {A = ℕ} 0 1 = cc in absurd (omega arith)
+saved_told_once (Err e) (Err f) same =
+    let long : e.length ≡ f.length = cc in
+    let short : e ≡ f = rw long in
+    ap (λ q. Err q) short

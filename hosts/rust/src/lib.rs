@@ -40,14 +40,14 @@
 //!
 //! | call | bytes |
 //! |---|---|
-//! | [`list`] | 2,176,584 |
-//! | [`Run::play`] | 1,672,488 |
-//! | [`Run::step`] | 1,672,360 |
-//! | [`Run::offers`], [`Run::status`] | 187,840 |
-//! | [`Table::check`] | 12,816 |
+//! | [`list`] | 2,143,808 |
+//! | [`Run::play`] | 1,639,728 |
+//! | [`Run::step`] | 1,639,600 |
+//! | [`Run::offers`], [`Run::status`] | 206,352 |
+//! | [`Table::check`] | 12,776 |
 //! | [`Run::save`] | 640 |
 //! | [`Track::write`] | 432 |
-//! | [`Track::read`] | 400 |
+//! | [`Track::read`] | 328 |
 //! | [`Run::start`] | 24 |
 //!
 //! Runs that the library started and stepped take far less: about 1 MiB in [`list`], and half of that in [`Run::step`]. What

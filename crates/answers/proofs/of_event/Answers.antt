@@ -1,6 +1,5 @@
 -- `answers::of_event` meets its contract: each arm knows the event. Assumes nothing.
-use mathlib.Core.Path.{sym, ap, ◌∙◌}
-use Prim.Native.Nat.{◌+◌}
+use Rattle.std.proofs.Common.{◌+◌, sym, ap, ◌∙◌}
 use Rattle.answers.specs.Numbers.{of_event}
 use Rattle.answers.proofs.of_event.Goals as goal
 
@@ -14,4 +13,4 @@ returns-in-Tick c = sym (ap of_event c.in-Tick.is)
 
 pub returns-in-Visible : goal.returns-in-Visible
 unfolding of_event
-returns-in-Visible c = ap (λ k. 2 + k) c.wide.ensures ∙ sym (ap of_event c.in-Visible.is)
+returns-in-Visible c = ap (λ k. 2 + k) c.from.ensures ∙ sym (ap of_event c.in-Visible.is)

@@ -1,24 +1,20 @@
--- `answers::of_offers` meets its contract, by whether τ and ✓ are offered. Assumes nothing.
-use mathlib.Core.Path.{◌≡◌, sym, ap, ◌∙◌}
-use mathlib.Core.Bool.{Bool}
+-- `answers::of_offers` meets its contract: each arm knows whether τ and ✓ are offered. Assumes nothing.
+use Rattle.std.proofs.Common.{ap₂, sym}
 use Rattle.answers.specs.Numbers.{of_offers}
 use Rattle.answers.proofs.of_offers.Goals as goal
 
-both : {a b tau tick : Bool} → a ≡ tau → b ≡ tick → of_offers tau tick ≡ of_offers a b
-both {b = b} {tau = tau} p q = sym (ap (λ k. of_offers k b) p ∙ ap (of_offers tau) q)
-
-pub returns-then-offered-2 : goal.returns-then-offered-2
+pub returns-in-true-true : goal.returns-in-true-true
 unfolding of_offers
-returns-then-offered-2 c = both c.if-offered.true c.if-offered-2.true
+returns-in-true-true c = sym (ap₂ of_offers c.in-true-true.is-0 c.in-true-true.is-1)
 
-pub returns-else-offered-2 : goal.returns-else-offered-2
+pub returns-in-true-false : goal.returns-in-true-false
 unfolding of_offers
-returns-else-offered-2 c = both c.if-offered.true c.if-offered-2.false
+returns-in-true-false c = sym (ap₂ of_offers c.in-true-false.is-0 c.in-true-false.is-1)
 
-pub returns-then-offered-3 : goal.returns-then-offered-3
+pub returns-in-false-true : goal.returns-in-false-true
 unfolding of_offers
-returns-then-offered-3 c = both c.if-offered.false c.if-offered-3.true
+returns-in-false-true c = sym (ap₂ of_offers c.in-false-true.is-0 c.in-false-true.is-1)
 
-pub returns-else-offered-3 : goal.returns-else-offered-3
+pub returns-in-false-false : goal.returns-in-false-false
 unfolding of_offers
-returns-else-offered-3 c = both c.if-offered.false c.if-offered-3.false
+returns-in-false-false c = sym (ap₂ of_offers c.in-false-false.is-0 c.in-false-false.is-1)

@@ -1,16 +1,21 @@
 -- `answers::of_played` meets its contract: each arm knows what the line came to. Assumes nothing.
-use mathlib.Core.Path.{sym, ap, ◌∙◌}
-use Rattle.answers.specs.Numbers.{of_played}
+use Rattle.std.proofs.Common.{Ok, sym, ap, ◌∙◌}
+use Rattle.playing.specs.Played.{played_told}
+use Rattle.answers.specs.Numbers.{of_played, of_refusal}
 use Rattle.answers.proofs.of_played.Goals as goal
 
-pub returns-in-Stepped : goal.returns-in-Stepped
-unfolding of_played
-returns-in-Stepped c = c.of_event.ensures ∙ sym (ap of_played c.in-Stepped.is)
+pub returns-in-Ok-Some : goal.returns-in-Ok-Some
+unfolding of_played played_told
+returns-in-Ok-Some c =
+    let which = rw c.in-Ok-Some.is at c.in-Ok-Some.field-0-is in
+    c.of_event.ensures ∙ sym (ap (λ p. of_played (played_told p)) (c.in-Ok-Some.is ∙ ap (λ o. Ok o) which))
 
-pub returns-in-Refused : goal.returns-in-Refused
-unfolding of_played
-returns-in-Refused c = c.of_refusal.ensures ∙ sym (ap of_played c.in-Refused.is)
+pub returns-in-Ok-None : goal.returns-in-Ok-None
+unfolding of_played played_told
+returns-in-Ok-None c =
+    let which = rw c.in-Ok-None.is at c.in-Ok-None.field-0-is in
+    sym (ap (λ p. of_played (played_told p)) (c.in-Ok-None.is ∙ ap (λ o. Ok o) which))
 
-pub returns-in-End : goal.returns-in-End
-unfolding of_played
-returns-in-End c = sym (ap of_played c.in-End.is)
+pub returns-in-Err : goal.returns-in-Err
+unfolding of_played played_told
+returns-in-Err c = c.of_refusal.ensures ∙ ap of_refusal c.number.ensures ∙ sym (ap (λ p. of_played (played_told p)) c.in-Err.is)

@@ -1,9 +1,9 @@
--- `columns::after_word` meets its contract, in range and out of it. Assumes nothing.
-use Rattle.columns.proofs.Laws.{look_in, look_out}
+-- `columns::after_word` meets its contract: a column is as long as its room, so past the room there
+-- is nothing to get. Assumes nothing.
+use Rattle.std.proofs.Common.{arith}
+use Rattle.std.proofs.lemmas.Grind.{common_steps}
+use Rattle.columns.proofs.Laws.{look_whole}
 use Rattle.columns.proofs.after_word.Goals as goal
 
-pub returns-then-n-lt-TERM_ROOM : goal.returns-then-n-lt-TERM_ROOM
-returns-then-n-lt-TERM_ROOM c = look_in _ _ _ c.if-n-lt-TERM_ROOM.true
-
-pub returns-else-n-lt-TERM_ROOM : goal.returns-else-n-lt-TERM_ROOM
-returns-else-n-lt-TERM_ROOM c = look_out _ _ _ c.if-n-lt-TERM_ROOM.false
+pub returns : goal.returns
+returns c = rw (look_whole _ _ _ c.told-after) (grind (arith, common_steps))

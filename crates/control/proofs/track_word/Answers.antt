@@ -1,10 +1,12 @@
--- `control::track_word` meets its contract, in range and out of it. Assumes nothing.
-use mathlib.Core.Path.{◌∙◌}
-use Rattle.control.proofs.Laws.{track_in, track_out}
+-- `control::track_word` meets its contract: a track is as long as its words, so past them there is
+-- nothing to get. Assumes nothing.
+use Rattle.std.proofs.Common.{arith}
+use Rattle.std.proofs.lemmas.Grind.{common_steps}
+use Rattle.columns.specs.words.Columns.{look}
+use Rattle.columns.proofs.Laws.{look_whole}
+use Rattle.control.specs.words.Words.{track_word}
 use Rattle.control.proofs.track_word.Goals as goal
 
-pub returns-then-i-lt-TRACK_WORDS : goal.returns-then-i-lt-TRACK_WORDS
-returns-then-i-lt-TRACK_WORDS c = c.wide.ensures ∙ track_in _ _ c.if-i-lt-TRACK_WORDS.true
-
-pub returns-else-i-lt-TRACK_WORDS : goal.returns-else-i-lt-TRACK_WORDS
-returns-else-i-lt-TRACK_WORDS c = track_out _ _ c.if-i-lt-TRACK_WORDS.false
+pub returns : goal.returns
+unfolding track_word look
+returns c = rw (look_whole _ _ _ c.told-track) (grind (arith, common_steps))

@@ -1,5 +1,5 @@
 -- `counting::tally_of` meets its contract: each number is the counter of its name. Assumes nothing.
-use mathlib.Core.Path.{refl}
+use Rattle.std.proofs.Common.{refl}
 use Rattle.counting.proofs.Laws.{tallied}
 use Rattle.counting.proofs.tally_of.Goals as goal
 

@@ -11,10 +11,10 @@ use Rattle.rules.specs.Process.{Address}
 use Rattle.rules.specs.Run.{State, answer}
 use Rattle.rules.specs.Run as Run
 use Rattle.runs.specs.words.Held.{addressed, Words}
-use Rattle.runs.specs.declared.Answer.{Answer}
+use Rattle.runs.specs.Answer.{Answer}
 use Rattle.playing.specs.LineAnswer.{line_answer}
 use Rattle.playing.specs.words.Account.{Plays}
-use Rattle.playing.specs.declared.Played.{Played}
+use Rattle.playing.specs.Played.{Played}
 use Rattle.demands.specs.words.Words.{HoldsRun, Steps}
 
 -- a step by an address that document 01 accepts, from words that hold a run, with an outcome that the step's promise allows

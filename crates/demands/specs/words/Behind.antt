@@ -5,12 +5,11 @@ use Rattle.rules.specs.Run.{State}
 use Rattle.graphs.specs.Graph.{graph_of}
 use Rattle.graphs.specs.Saved.{saved}
 use Rattle.exchange.specs.Renamed.{renamed}
-use Rattle.writing.specs.declared.Saved.{Saved}
+use Rattle.writing.specs.Answers.{Saved}
 use Rattle.runs.specs.words.Held.{Words}
 use Rattle.demands.specs.words.Words.{HoldsRun, SavesWords}
 use Rattle.demands.specs.words.Bytes.{bytes_of}
-use Rattle.runs.specs.declared.Answer.{Answer}
-use Rattle.runs.specs.declared.Answer.TheVariants.{Refused}
+use Rattle.runs.specs.Answer.{Answer, Refused}
 
 -- words that hold what both orders come to: the states behind a and then b, and behind b and then a, are the same
 -- process apart from reference numbers, which are renamed one to one, and their saves leave the same bytes

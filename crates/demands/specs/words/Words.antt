@@ -10,14 +10,13 @@ use Rattle.rules.specs.Run.{State}
 use Rattle.plans.specs.code.Laid.{laid_out}
 use Rattle.plans.specs.words.Layout.{layout}
 use Rattle.runs.specs.words.Held.{Words, Holds, Keeps}
-use Rattle.runs.specs.declared.Answer.{Answer}
-use Rattle.runs.specs.declared.Answer.TheVariants.{Accepted}
+use Rattle.runs.specs.Answer.{Answer, Accepted}
 use Rattle.graphs.specs.Graph.{Graph}
 use Rattle.graphs.specs.Saved.{graph_text}
 use Rattle.links.specs.declared.GraphCounts.{GraphCounts}
 use Rattle.framing.specs.words.Told.{graph_told}
 use Rattle.writing.specs.words.Slice.{with_slice, written}
-use Rattle.writing.specs.declared.Saved.{Saved}
+use Rattle.writing.specs.Answers.{Saved}
 use Rattle.saving.specs.words.Kept.{Saves}
 
 -- the plan that is laid out from a table's columns, and the sets that go with it

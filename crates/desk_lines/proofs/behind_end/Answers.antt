@@ -1,30 +1,26 @@
 -- `desk_lines::behind_end` meets its contract: the tests tell what stands at the end of the digits, and behind a CR there. Assumes
 -- nothing.
-use mathlib.Core.Path.{sym}
-use Rattle.desk_lines.proofs.Ends.{behind_nothing, behind_LF, behind_other}
-use Rattle.desk_lines.proofs.Ends.{behind_CR_nothing, behind_CR_LF, behind_CR_other}
+use Rattle.std.proofs.Common.{◌<◌, sym, ◌∙◌, arith, length}
+use Rattle.std.proofs.lemmas.Grind.{common_steps}
+use Rattle.desk_lines.proofs.Ends.{behind_nothing, behind_LF, behind_other, behind_CR_LF, behind_CR_alone}
 use Rattle.desk_lines.proofs.behind_end.Goals as goal
 
-pub returns-then-text-end : goal.returns-then-text-end
-returns-then-text-end c = sym (behind_nothing _ _ c.if-text-end.true)
+pub returns-in_err-get : goal.returns-in_err-get
+returns-in_err-get c = c.from_residual.ensures ∙ sym (behind_nothing _ _ (grind (arith, common_steps)))
 
-pub returns-then-text-end-eq-LF : goal.returns-then-text-end-eq-LF
-returns-then-text-end-eq-LF c = sym (behind_LF _ _ c.if-text-end.false c.if-text-end-eq-LF.true)
+pub returns-in-10 : goal.returns-in-10
+returns-in-10 c = sym (behind_LF _ _ (grind (arith, common_steps)) (grind (arith, common_steps)))
 
-pub returns-then-text-end-ne-CR : goal.returns-then-text-end-ne-CR
-returns-then-text-end-ne-CR c = sym (behind_other _ _ c.if-text-end.false c.if-text-end-eq-LF.false c.if-text-end-ne-CR.true)
+pub returns-in-13 : goal.returns-in-13
+returns-in-13 c =
+    let more : c.args.end < length c.args.text.now = grind (arith, common_steps) in
+    sym (behind_CR_LF _ _ more (grind (arith, common_steps)) (grind (arith, common_steps)) (grind (arith, common_steps)))
 
-pub returns-then-text-feed : goal.returns-then-text-feed
-returns-then-text-feed c =
-    let inside = c.if-text-end.false in
-    sym (behind_CR_nothing _ _ inside c.if-text-end-ne-CR.false c.if-text-feed.true)
+pub returns-in_default : goal.returns-in_default
+returns-in_default c =
+    let more : c.args.end < length c.args.text.now = grind (arith, common_steps) in
+    sym (behind_CR_alone _ _ more (grind (arith, common_steps)) (λ l q. grind (arith, common_steps)))
 
-pub returns-then-text-feed-ne-LF : goal.returns-then-text-feed-ne-LF
-returns-then-text-feed-ne-LF c =
-    let inside = c.if-text-end.false in
-    sym (behind_CR_other _ _ inside c.if-text-end-ne-CR.false c.if-text-feed.false c.if-text-feed-ne-LF.true)
-
-pub returns : goal.returns
-returns c =
-    let inside = c.if-text-end.false in
-    sym (behind_CR_LF _ _ inside c.if-text-end-ne-CR.false c.if-text-feed.false c.if-text-feed-ne-LF.false)
+pub returns-in_default-2 : goal.returns-in_default-2
+returns-in_default-2 c =
+    sym (behind_other _ _ (grind (arith, common_steps)) (λ q. grind (arith, common_steps)) (λ q. grind (arith, common_steps)))

@@ -1,24 +1,18 @@
-use mathlib.Core.Path.{sym, ◌∙◌}
-use borrow.Author.Rules.{rules}
-use native.Mathlib.Omega.{arith}
-use Rattle.desk_lines.proofs.Capitals.{run_over, run_stops, run_goes_on}
+-- `desk_lines::digits_end` meets its contract: the search stops at the first character that is no digit, and there the run of
+-- digits ends. Assumes nothing.
+use Rattle.std.proofs.Common.{◌≡◌, ◌-◌, rules, tests, arith, leb, take, drop, length}
+use Rattle.std.specs.List.{position}
+use Rattle.std.proofs.lemmas.Iterator.{YieldsList-from_slice}
+use Rattle.std.proofs.lemmas.Iterator.Search.{position_from_yields_List}
+use Rattle.lines.specs.Line.{digit}
+use Rattle.lines.proofs.Runs.{run_found}
+use Rattle.desk_lines.specs.DeskLine.{small}
 use Rattle.desk_lines.proofs.digits_end.Goals as goal
-
-pub returns-then-not-is_digit : goal.returns-then-not-is_digit
-returns-then-not-is_digit c =
-    let s = c.args.text.now in
-    let i = c.loop-i.i in
-    let other = sym c.if-not-is_digit.true ∙ c.is_digit.ensures in
-    omega (arith, run_stops s i (search rules) other)
-
-pub loop-i-preserved : goal.loop-i-preserved
-loop-i-preserved c =
-    let s = c.args.text.now in
-    let i = c.loop-i.i in
-    let digit = sym c.if-not-is_digit.false ∙ c.is_digit.ensures in
-    omega (arith, run_goes_on s i (search rules) digit)
 
 pub returns : goal.returns
 returns c =
     let s = c.args.text.now in
-    omega (arith, run_over s c.loop-i.i (search rules))
+    let found : c.position.result ≡ position (λ x. leb 16 (digit (small x))) (take (length s - c.args.from) (drop c.args.from s)) =
+    position_from_yields_List _ _ _ c.position.result c.position.ensures.ran (YieldsList-from_slice _ c.iter.ensures.rest) (λ x b q k. search (rules, tests)) in
+    let there = run_found small s c.args.from c.position.result found in
+    (omega (arith, there.0), omega (arith, there.1))

@@ -1,6 +1,6 @@
 -- `drawing::arc` meets its contract: it puts both words of an arc where there is room for it, and
 -- counts it. Assumes nothing.
-use mathlib.Core.Path.{◌∙◌}
+use Rattle.std.proofs.Common.{◌∙◌}
 use Rattle.drawing.proofs.Laws.{arc_counted, arc_put, arc_left_out}
 use Rattle.drawing.proofs.arc.Goals as goal
 use Rattle.drawing.proofs.arc.Goals.{then-at-lt-ARC_ROOM, else-at-lt-ARC_ROOM}

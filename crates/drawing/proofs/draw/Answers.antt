@@ -1,6 +1,6 @@
 -- `drawing::draw` meets its contract: an arc to the next fresh reference, which is past then. Assumes
 -- nothing.
-use mathlib.Core.Path.{◌∙◌, ap}
+use Rattle.std.proofs.Common.{◌∙◌, ap}
 use Rattle.drawing.specs.code.Drawing.{drawn}
 use Rattle.drawing.proofs.draw.Goals as goal
 

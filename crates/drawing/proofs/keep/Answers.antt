@@ -1,6 +1,6 @@
 -- `drawing::keep` meets its contract: it puts an event node where there is room for it, and counts
 -- it. Assumes nothing.
-use mathlib.Core.Path.{◌∙◌}
+use Rattle.std.proofs.Common.{◌∙◌}
 use Rattle.drawing.proofs.Laws.{met_counted, met_put, met_left_out}
 use Rattle.drawing.proofs.keep.Goals as goal
 use Rattle.drawing.proofs.keep.Goals.{then-at-lt-NODE_ROOM, else-at-lt-NODE_ROOM}

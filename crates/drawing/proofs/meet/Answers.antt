@@ -1,6 +1,6 @@
 -- `drawing::meet` meets its contract: it puts both words of a meeting where there is room for it, and
 -- counts it. Assumes nothing.
-use mathlib.Core.Path.{◌∙◌}
+use Rattle.std.proofs.Common.{◌∙◌}
 use Rattle.drawing.proofs.Laws.{meeting_counted, meeting_put, meeting_left_out}
 use Rattle.drawing.proofs.meet.Goals as goal
 use Rattle.drawing.proofs.meet.Goals.{then-at-lt-MEETING_ROOM, else-at-lt-MEETING_ROOM}

@@ -1,13 +1,9 @@
-use mathlib.Core.Path.{refl, sym, ◌∙◌}
+use Rattle.std.proofs.Common.{refl, sym, ◌∙◌}
 use Rattle.drawing.proofs.Laws.{met_each_turn, met_each_end, parts_kept}
-use native.Mathlib.Omega.{arith}
 use Rattle.drawing.proofs.meet_each.Goals as goal
 
 pub loop-i-init : goal.loop-i-init
 loop-i-init c = refl
-
-pub loop-i-smaller : goal.loop-i-smaller
-loop-i-smaller c = omega arith
 
 pub loop-i-preserved : goal.loop-i-preserved
 loop-i-preserved c =

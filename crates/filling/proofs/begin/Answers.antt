@@ -1,5 +1,5 @@
 -- `filling::begin` meets its contract: its record is the one of the definition. Assumes nothing.
-use mathlib.Core.Path.{refl}
+use Rattle.std.proofs.Common.{refl}
 use Rattle.filling.specs.code.Taking.{started}
 use Rattle.filling.proofs.begin.Goals as goal
 

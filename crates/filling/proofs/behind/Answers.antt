@@ -1,21 +1,18 @@
 -- `filling::behind` meets its contract: behind no term, one or two is none, one or two steps along the
 -- column. Assumes nothing.
-use mathlib.Core.Path.{◌∙◌, ap}
-use Prim.Native.Nat.{ℕ}
-use lib.ListN.{get_or}
-use native.Mathlib.Omega.{arith}
+use Rattle.std.proofs.Common.{ℕ, ◌∙◌, ap, get_or, arith}
 use Rattle.columns.proofs.Laws.{look_whole}
 use Rattle.filling.proofs.Walked.{past_none, past_one, past_two}
 use Rattle.filling.proofs.behind.Goals as goal
 
-pub returns-then-n-eq0 : goal.returns-then-n-eq0
-returns-then-n-eq0 c = past_none _ _ _ c.if-n-eq0.true
+pub returns-in-0 : goal.returns-in-0
+returns-in-0 c = past_none _ _ _ c.in-0.is
 
-pub returns-then-n-eq1 : goal.returns-then-n-eq1
-returns-then-n-eq1 c = c.after_word-first.ensures ∙ look_whole _ _ _ c.requires.2 ∙ past_one _ _ _ c.if-n-eq1.true
+pub returns-in-1 : goal.returns-in-1
+returns-in-1 c = c.after_word.ensures ∙ look_whole _ _ _ c.requires.2 ∙ past_one _ _ _ c.in-1.is
 
-pub returns : goal.returns
-returns c =
-    let xs = c.args.after.now in
-    let from = ap (λ (j : ℕ). get_or xs j 0) (c.after_word-first.ensures ∙ look_whole _ _ _ c.requires.2) in
-    c.after_word.ensures ∙ look_whole _ _ _ c.requires.2 ∙ from ∙ past_two _ _ _ (omega arith)
+pub returns-in_default : goal.returns-in_default
+returns-in_default c =
+    let second = c.after_of-second.ensures ∙ look_whole _ _ _ c.requires.2 in
+    c.after_word-in_default.ensures ∙ look_whole _ _ _ c.requires.2
+    ∙ ap (λ (k : ℕ). get_or c.args.after.now k 0) second ∙ past_two _ _ _ (omega arith)

@@ -1,7 +1,6 @@
 -- `filling::take` meets its contract. In each arm the frame is the arm's variant, by which the
 -- definition of each column computes; a frame that meets no refusal is within every room. Assumes nothing.
-use mathlib.Core.Path.{refl}
-use native.Mathlib.Omega.{arith}
+use Rattle.std.proofs.Common.{refl, inl, inr, arith}
 use Rattle.filling.specs.code.Taking.{seen_then, waiting_then, roots_then, column_then}
 use Rattle.filling.proofs.Rooms.{term_room_is, definition_room_is}
 use Rattle.filling.proofs.take.Goals as goal
@@ -52,18 +51,8 @@ returns-in-Definition c =
 
 pub returns-in-Opening : goal.returns-in-Opening
 unfolding seen_then waiting_then roots_then column_then
-returns-in-Opening c =
-    rw c.in-Opening.is
-    (record { value = refl; waiting_after = refl; kinds_after = refl; payloads_after = refl; owners_after = refl; roots_after = refl })
-
-pub returns-in-Closing : goal.returns-in-Closing
-unfolding seen_then waiting_then roots_then column_then
-returns-in-Closing c =
-    rw c.in-Closing.is
-    (record { value = refl; waiting_after = refl; kinds_after = refl; payloads_after = refl; owners_after = refl; roots_after = refl })
-
-pub returns-in-Wrong : goal.returns-in-Wrong
-unfolding seen_then waiting_then roots_then column_then
-returns-in-Wrong c =
-    rw c.in-Wrong.is
-    (record { value = refl; waiting_after = refl; kinds_after = refl; payloads_after = refl; owners_after = refl; roots_after = refl })
+returns-in-Opening c = elim c.in-Opening.is [
+  | inl w ↦ rw w.3 (record { value = refl; waiting_after = refl; kinds_after = refl; payloads_after = refl; owners_after = refl; roots_after = refl })
+  | inr (inl w) ↦ rw w.1 (record { value = refl; waiting_after = refl; kinds_after = refl; payloads_after = refl; owners_after = refl; roots_after = refl })
+  | inr (inr w) ↦ rw w (record { value = refl; waiting_after = refl; kinds_after = refl; payloads_after = refl; owners_after = refl; roots_after = refl })
+]

@@ -1,8 +1,6 @@
--- `frames::closes` meets its contract: the arm that names the last line's frame has it, and every other frame
--- has another tag. Assumes nothing.
-use mathlib.Core.Path.{◌≡◌, refl, sym, ap}
-use mathlib.Core.Bool.{false}
-use Prim.Native.Nat.{ℕ}
+-- `frames::closes` meets its contract: the pattern takes the last line's frame, and every other frame has another tag. Assumes
+-- nothing.
+use Rattle.std.proofs.Common.{ℕ, ◌≡◌, false, refl, sym, ap}
 use Rattle.frames.specs.TableFrame.{closes}
 use Rattle.frames.specs.declared.Frame.{Frame}
 use Rattle.frames.specs.declared.Frame.TheVariants.{Opening, Definition, Term, Closing, Wrong}

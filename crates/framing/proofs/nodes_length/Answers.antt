@@ -1,5 +1,4 @@
-use mathlib.Core.Path.{◌∙◌, ap}
-use native.Mathlib.Omega.{arith}
+use Rattle.std.proofs.Common.{ap, ◌∙◌, arith}
 use Rattle.columns.specs.words.Columns.{columns}
 use Rattle.marks.specs.words.Mark.{literal}
 use Rattle.framing.proofs.Spelt.{answer_short, nodes_long_all, nodes_long_none, node_longer}

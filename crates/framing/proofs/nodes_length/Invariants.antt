@@ -1,9 +1,7 @@
 -- `framing::nodes_length` meets its contract. The loop's invariant: the length so far, with the length
--- of the lines from node k on, is that of all. The measure is how many nodes are left. Assumes nothing.
-use Prim.Native.Nat.{◌+◌, ◌-◌}
-use mathlib.Core.Path.{◌≡◌}
-use mathlib.Core.List.{map}
-use lib.ListN as list
+-- of the lines from node k on, is that of all. Assumes nothing.
+use Rattle.std.proofs.Common.{◌≡◌, ◌+◌, ◌-◌, map}
+use Rattle.std.proofs.Math.ListN as list
 use Rattle.lines.specs.Line.{text}
 use Rattle.columns.specs.words.Columns.{columns}
 use Rattle.graphs.specs.Saved.{node_frame}
@@ -14,6 +12,3 @@ abbrev pub invariant-loop-k : goal.invariant-loop-k
 invariant-loop-k l = l.length
     + list.length (text (map node_frame (labels_told (columns l.kinds l.owners l.after l.roots) l.labels l.k (l.count - l.k))))
     ≡ list.length (text (map node_frame (labels_told (columns l.kinds l.owners l.after l.roots) l.labels 0 l.count)))
-
-abbrev pub decreases-loop-k : goal.decreases-loop-k
-decreases-loop-k l = l.count - l.k

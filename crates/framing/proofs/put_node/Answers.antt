@@ -1,6 +1,6 @@
 -- `framing::put_node` meets its contract: a byte, a number, the definition, the length and the digits
 -- of a path, and LF. Assumes nothing.
-use native.Mathlib.Omega.{arith}
+use Rattle.std.proofs.Common.{arith}
 use Rattle.lines.specs.Line.{two, hex}
 use Rattle.framing.proofs.Spelt.{node_spelt, digits_short}
 use Rattle.framing.proofs.put_node.Goals as goal

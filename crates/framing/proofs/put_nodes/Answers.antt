@@ -1,6 +1,4 @@
-use mathlib.Core.Path.{refl, ◌∙◌, ap}
-use native.Mathlib.Omega.{arith}
-use Rattle.spelling.proofs.Putting.{owed_length}
+use Rattle.std.proofs.Common.{refl, ap, ◌∙◌, arith}
 use Rattle.columns.specs.words.Columns.{columns}
 use Rattle.marks.specs.words.Mark.{literal}
 use Rattle.framing.proofs.Spelt.{answer_short, path_kept, nodes_owed, nodes_put, node_less}
@@ -29,9 +27,6 @@ loop-k-preserved c =
           c.place-placed.ensures.path_after l.invariant.1
           c.put_node-at.ensures,
     )
-
-pub shape_of-out : goal.shape_of-out
-shape_of-out c = owed_length c.loop-k.invariant.1
 
 pub returns : goal.returns
 returns c =

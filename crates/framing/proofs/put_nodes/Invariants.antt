@@ -1,9 +1,6 @@
 -- `framing::put_nodes` meets its contract. The loop's invariant: what is owed are the lines from node k
--- on; of the lent path only its length is known. The measure is how many nodes are left. Assumes nothing.
-use Prim.Native.Nat.{◌-◌}
-use mathlib.Core.Path.{◌≡◌}
-use mathlib.Core.List.{map}
-use lib.ListN.{length}
+-- on; of the lent path only its length is known. Assumes nothing.
+use Rattle.std.proofs.Common.{◌≡◌, ◌-◌, map, length}
 use Rattle.lines.specs.Line.{text}
 use Rattle.spelling.proofs.Putting.{Owed}
 use Rattle.columns.specs.words.Columns.{columns}
@@ -15,6 +12,3 @@ abbrev pub invariant-loop-k : goal.invariant-loop-k
 invariant-loop-k l = (length l.path ≡ 64)
     × Owed (text (map node_frame (labels_told (columns l.kinds l.owners l.after l.roots) l.labels 0 l.count))) l.from l.initial.out
     (text (map node_frame (labels_told (columns l.kinds l.owners l.after l.roots) l.labels l.k (l.count - l.k)))) l.at l.out
-
-abbrev pub decreases-loop-k : goal.decreases-loop-k
-decreases-loop-k l = l.count - l.k

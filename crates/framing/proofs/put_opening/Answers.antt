@@ -1,5 +1,5 @@
 -- `framing::put_opening` meets its contract: two bytes, three numbers and LF. Assumes nothing.
-use native.Mathlib.Omega.{arith}
+use Rattle.std.proofs.Common.{arith}
 use Rattle.lines.specs.Line.{two, hex}
 use Rattle.framing.proofs.Spelt.{opening_spelt, opening_long}
 use Rattle.framing.proofs.put_opening.Goals as goal

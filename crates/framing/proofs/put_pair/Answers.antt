@@ -1,5 +1,5 @@
 -- `framing::put_pair` meets its contract: a byte, two numbers and LF. Assumes nothing.
-use native.Mathlib.Omega.{arith}
+use Rattle.std.proofs.Common.{arith}
 use Rattle.lines.specs.Line.{two, hex}
 use Rattle.framing.proofs.Spelt.{pair_spelt}
 use Rattle.framing.proofs.put_pair.Goals as goal

@@ -1,5 +1,4 @@
-use native.Mathlib.Omega.{arith}
-use Rattle.spelling.proofs.Putting.{owed_length}
+use Rattle.std.proofs.Common.{arith}
 use Rattle.framing.proofs.Spelt.{pairs_owed, pairs_put, pair_less, pairs_long}
 use Rattle.framing.proofs.put_pairs.Goals as goal
 
@@ -16,9 +15,6 @@ pub loop-i-preserved : goal.loop-i-preserved
 loop-i-preserved c =
     pair_less _ _ _ _ _ _ _ c.loop-i-test.true c.track_word.ensures c.track_word-in-loop-i.ensures
     c.loop-i.invariant c.put_pair-at.ensures
-
-pub shape_of-out : goal.shape_of-out
-shape_of-out c = owed_length c.loop-i.invariant
 
 pub returns : goal.returns
 returns c =

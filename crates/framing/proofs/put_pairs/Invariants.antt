@@ -1,7 +1,6 @@
 -- `framing::put_pairs` meets its contract. The loop's invariant: what is owed are the lines of the
--- pairs from number i on. The measure is how many pairs are left. Assumes nothing.
-use Prim.Native.Nat.{◌-◌}
-use mathlib.Core.List.{map}
+-- pairs from number i on. Assumes nothing.
+use Rattle.std.proofs.Common.{◌-◌, map}
 use Rattle.lines.specs.Line.{text}
 use Rattle.spelling.proofs.Putting.{Owed}
 use Rattle.control.specs.words.Views.{pairs}
@@ -11,6 +10,3 @@ use Rattle.framing.proofs.put_pairs.Given as goal
 abbrev pub invariant-loop-i : goal.invariant-loop-i
 invariant-loop-i l = Owed (text (map (pair_frame l.code) (pairs l.base l.track 0 l.count))) l.from l.initial.out
     (text (map (pair_frame l.code) (pairs l.base l.track l.i (l.count - l.i)))) l.at l.out
-
-abbrev pub decreases-loop-i : goal.decreases-loop-i
-decreases-loop-i l = l.count - l.i

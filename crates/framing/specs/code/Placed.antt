@@ -1,15 +1,14 @@
 -- What an answer of `places::place` tells.
-use Rattle.std.specs.Prelude.{ℕ}
+use Rattle.std.specs.Prelude.{ℕ, Option, Some, None}
 use Rattle.frames.specs.TableFrame.{definition_room}
 use Rattle.places.specs.declared.Placed.{Placed}
-use Rattle.places.specs.declared.Placed.TheVariants.{At, Nowhere}
 
 -- how many digits the path of an answer has
-unfoldable pub told_length : Placed → ℕ
-told_length (At d n) = n
-told_length Nowhere = 0
+abbrev pub told_length : Option Placed → ℕ
+told_length (Some p) = p.length
+told_length None = 0
 
 -- the definition of an answer
-unfoldable pub told_definition : Placed → ℕ
-told_definition (At d n) = d
-told_definition Nowhere = definition_room
+abbrev pub told_definition : Option Placed → ℕ
+told_definition (Some p) = p.definition
+told_definition None = definition_room

@@ -1,19 +1,21 @@
-use borrow.Author.Rules.{rules}
-use native.Mathlib.Omega.{arith}
-use Rattle.inputs.proofs.Cutting.{line_over, line_ends, line_goes_on}
+-- `inputs::line_length` meets its contract: the search finds the first LF, and the line ends with it, or with the text. Assumes
+-- nothing.
+use Rattle.std.proofs.Common.{◌≡◌, sym, ◌∙◌, rules, tests, eqb}
+use Rattle.std.specs.List.{position}
+use Rattle.std.proofs.lemmas.Iterator.{YieldsList-from_slice}
+use Rattle.std.proofs.lemmas.Iterator.Search.{position_from_yields_List}
+use Rattle.lines.specs.Line.{LF}
+use Rattle.inputs.proofs.Cutting.{line_found, line_unended}
 use Rattle.inputs.proofs.line_length.Goals as goal
 
-pub returns-then-text-i-eq-LF : goal.returns-then-text-i-eq-LF
-returns-then-text-i-eq-LF c =
-    let t = c.args.text.now in
-    omega (arith, line_ends t c.loop-i.i (search rules) c.if-text-i-eq-LF.true)
+pub returns-in-Some : goal.returns-in-Some
+returns-in-Some c =
+    let found : c.position.result ≡ position (λ x. eqb x LF) c.args.text.now =
+    position_from_yields_List _ _ _ c.position.result c.position.ensures.ran (YieldsList-from_slice _ c.iter.ensures.rest) (λ x b q k. search (rules, tests)) in
+    line_found _ _ (sym c.in-Some.is ∙ found)
 
-pub loop-i-preserved : goal.loop-i-preserved
-loop-i-preserved c =
-    let t = c.args.text.now in
-    omega (arith, line_goes_on t c.loop-i.i (search rules) c.if-text-i-eq-LF.false)
-
-pub returns : goal.returns
-returns c =
-    let t = c.args.text.now in
-    omega (arith, line_over t c.loop-i.i c.loop-i-test.false)
+pub returns-in-None : goal.returns-in-None
+returns-in-None c =
+    let found : c.position.result ≡ position (λ x. eqb x LF) c.args.text.now =
+    position_from_yields_List _ _ _ c.position.result c.position.ensures.ran (YieldsList-from_slice _ c.iter.ensures.rest) (λ x b q k. search (rules, tests)) in
+    line_unended _ (sym c.in-None.is ∙ found)

@@ -1,16 +1,17 @@
--- `inputs::starts_1f` meets its contract: each `return` stands behind the tests that tell of the text what the
--- definition asks. Assumes nothing.
-use Rattle.inputs.proofs.Cutting.{starts_short, starts_other, starts_small, starts_capital}
+-- `inputs::starts_1f` meets its contract: the pattern asks of the first two bytes what the definition does. Assumes nothing.
+use Rattle.std.proofs.Common.{◌∙◌, arith}
+use Rattle.std.proofs.lemmas.Grind.{common_steps}
+use Rattle.inputs.proofs.Cutting.{starts_short, starts_told}
 use Rattle.inputs.proofs.starts_1f.Goals as goal
 
-pub returns-then-text-lt2 : goal.returns-then-text-lt2
-returns-then-text-lt2 c = starts_short _ c.if-text-lt2.true
+pub returns-in-49 : goal.returns-in-49
+returns-in-49 c = grind (arith, common_steps) ∙ starts_told _ c.in-49.len_at_least
 
-pub returns-then-text-ne49 : goal.returns-then-text-ne49
-returns-then-text-ne49 c = starts_other _ c.if-text-ne49.true
+pub returns-in_default : goal.returns-in_default
+returns-in_default c = starts_short _ c.in_default.len_below
 
-pub returns-then-text-eq102 : goal.returns-then-text-eq102
-returns-then-text-eq102 c = starts_small _ c.if-text-lt2.false c.if-text-ne49.false c.if-text-eq102.true
+pub returns-in_default-2 : goal.returns-in_default-2
+returns-in_default-2 c = grind (arith, common_steps) ∙ starts_told _ c.in_default.len_at_least
 
-pub returns : goal.returns
-returns c = starts_capital _ c.if-text-lt2.false c.if-text-ne49.false c.if-text-eq102.false
+pub returns-in_default-3 : goal.returns-in_default-3
+returns-in_default-3 c = grind (arith, common_steps) ∙ starts_told _ c.in_default.len_at_least

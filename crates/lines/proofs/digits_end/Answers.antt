@@ -1,21 +1,18 @@
-use borrow.Author.Rules.{rules}
-use native.Mathlib.Omega.{arith}
-use Rattle.lines.proofs.Digits.{run_end, run_stop, run_more}
+-- `lines::digits_end` meets its contract: the search stops at the first character that is no digit, and there the run of digits
+-- ends. Assumes nothing.
+use Rattle.std.proofs.Common.{◌≡◌, ◌-◌, rules, tests, arith, leb, take, drop, length}
+use Rattle.std.specs.List.{position}
+use Rattle.std.proofs.lemmas.Iterator.{YieldsList-from_slice}
+use Rattle.std.proofs.lemmas.Iterator.Search.{position_from_yields_List}
+use Rattle.std.proofs.lemmas.List.{map-id}
+use Rattle.lines.specs.Line.{digit}
+use Rattle.lines.proofs.Runs.{run_found}
 use Rattle.lines.proofs.digits_end.Goals as goal
-
-pub returns-then-value-ge16 : goal.returns-then-value-ge16
-returns-then-value-ge16 c =
-    let s = c.args.text.now in
-    let i = c.loop-i.i in
-    omega (arith, run_stop s i (search rules) (omega arith))
-
-pub loop-i-preserved : goal.loop-i-preserved
-loop-i-preserved c =
-    let s = c.args.text.now in
-    let i = c.loop-i.i in
-    omega (arith, run_more s i (search rules) (omega arith))
 
 pub returns : goal.returns
 returns c =
     let s = c.args.text.now in
-    omega (arith, run_end s c.loop-i.i (search rules))
+    let found : c.position.result ≡ position (λ x. leb 16 (digit x)) (take (length s - c.args.from) (drop c.args.from s)) =
+    position_from_yields_List _ _ _ c.position.result c.position.ensures.ran (YieldsList-from_slice _ c.iter.ensures.rest) (λ x b q k. search (rules, tests)) in
+    let there = simp map-id at (run_found (λ x. x) s c.args.from c.position.result found) in
+    (omega (arith, there.0), omega (arith, there.1))

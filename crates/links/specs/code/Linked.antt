@@ -1,5 +1,5 @@
 -- Where the arcs of a graph in columns lead, by the marks of their ends: two words for each reference, one for each side.
-use Rattle.std.specs.Prelude.{ℕ, zero, suc, ◌+◌, ◌*◌, Bool, true, ◌&&◌, ◌||◌, not, List, [], ◌∷◌, ◌++◌, leb, ltb, eqb}
+use Rattle.std.specs.Prelude.{ℕ, zero, suc, ◌+◌, ◌*◌, Bool, true, ◌&&◌, ◌||◌, not, List, [], ◌∷◌, ◌++◌, leb, ltb, eqb, Option, None, Some}
 use Rattle.lines.specs.Line.{choose}
 use Rattle.kinds.specs.Kind as Kind
 use Rattle.frames.specs.TableFrame.{term_room}
@@ -28,6 +28,11 @@ side_of xs t u =
 -- the side that an arc from mark m to mark n leads to; all arcs of a node with no sides lead to its second
 unfoldable pub slot : List ℕ → List ℕ → ℕ → ℕ → ℕ
 slot ks xs m n = choose (splits ks m) (choose (ltb n 2) 0 (side_of xs (term_of m) (term_of n))) 2
+
+-- a side by its number, none where that is 0
+abbrev pub told : ℕ → Option ℕ
+told zero = None
+told (suc s) = Some (suc s)
 
 module _ (ms ks xs : List ℕ) where
   -- an end of an arc has no mark

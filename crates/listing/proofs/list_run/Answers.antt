@@ -18,7 +18,7 @@ put_track-requires c =
 
 pub returns : goal.returns
 returns c =
-    run_put _ _ _ _ _ _ _ (c.start.ensures.nodes_after, (c.start.ensures.track_after, (c.start.ensures.counters_after, c.start.ensures.begins))) c.put_steps-stop.ensures c.wide.ensures
+    run_put _ _ _ _ _ _ _ (c.start.ensures.nodes_after, (c.start.ensures.track_after, (c.start.ensures.counters_after, c.start.ensures.begins))) c.put_steps-stop.ensures c.from.ensures
     c.status_at-status.ensures.value
     c.put_status-behind_status.ensures
     c.put_stop-behind_stop.ensures

@@ -6,8 +6,8 @@ use lib.ListN.{length}
 use Rattle.listing.proofs.Stepping.{Going}
 use Rattle.listing.proofs.put_steps.Given as goal
 
-abbrev pub invariant-loop-event : goal.invariant-loop-event
-invariant-loop-event l = Going l.plan l.sets l.script l.initial.nodes l.initial.track l.initial.counters l.initial.out l.nodes l.track l.counters l.out l.digits l.at l.line l.end
+abbrev pub invariant-loop-step : goal.invariant-loop-step
+invariant-loop-step l = Going l.plan l.sets l.script l.initial.nodes l.initial.track l.initial.counters l.initial.out l.nodes l.track l.counters l.out l.digits l.at l.line l.end
 
-abbrev pub decreases-loop-event : goal.decreases-loop-event
-decreases-loop-event l = length l.script - l.at
+abbrev pub decreases-loop-step : goal.decreases-loop-step
+decreases-loop-step l = length l.script - l.at

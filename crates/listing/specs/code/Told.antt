@@ -10,8 +10,7 @@ use Rattle.status.specs.code.Status.{status}
 use Rattle.runs.specs.code.Doors as run
 use Rattle.playing.specs.code.Playing as plays
 use Rattle.counting.specs.code.Counting.{reference}
-use Rattle.playing.specs.declared.Played.{Played}
-use Rattle.playing.specs.declared.Played.TheVariants.{Stepped, Refused, End}
+use Rattle.playing.specs.Played.{Played, Stepped, Refused, End}
 use Rattle.saving.specs.code.Saving.{text_of}
 use Rattle.spelling.specs.words.Puts.{Puts}
 use Rattle.telling.specs.ListingFrame.{alone, step_frame, status_frame}

@@ -1,10 +1,13 @@
 -- `looking::beyond` meets its contract, by whether the plan has a sequence around the term.
 -- Assumes nothing.
-use Rattle.looking.proofs.LookLaws.{beyond_bare, beyond_sequence}
+use Rattle.std.proofs.Common.{rules}
+use Rattle.control.specs.words.Control as Control
 use Rattle.looking.proofs.beyond.Goals as goal
 
-pub returns-then-around-eq0 : goal.returns-then-around-eq0
-returns-then-around-eq0 c = beyond_bare _ _ _ _ _ c.around_of-around.ensures c.if-around-eq0.true
+pub returns-then-around_of-eq0 : goal.returns-then-around_of-eq0
+unfolding Control.beyond
+returns-then-around_of-eq0 c = search rules
 
-pub returns-else-around-eq0 : goal.returns-else-around-eq0
-returns-else-around-eq0 c = beyond_sequence _ _ _ _ _ c.around_of-around.ensures c.if-around-eq0.false
+pub returns-else-around_of-eq0 : goal.returns-else-around_of-eq0
+unfolding Control.beyond
+returns-else-around_of-eq0 c = search rules

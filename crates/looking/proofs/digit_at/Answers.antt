@@ -1,14 +1,14 @@
--- `looking::digit_at` meets its contract, before the last digit, behind it, and past the room.
+-- `looking::digit_at` meets its contract: past the room, as behind the last digit, there is none.
 -- Assumes nothing.
-use mathlib.Core.Path.{◌∙◌}
-use Rattle.looking.proofs.LookLaws.{digit_behind, digit_in, digit_out}
+use Rattle.std.proofs.Common.{arith}
+use Rattle.std.proofs.lemmas.Grind.{common_steps}
+use Rattle.columns.proofs.Laws.{look_whole}
+use Rattle.looking.proofs.LookLaws.{digit_behind, digit_told}
 use Rattle.looking.proofs.digit_at.Goals as goal
 
-pub returns-then-count-at : goal.returns-then-count-at
-returns-then-count-at c = digit_behind _ _ _ c.if-count-at.true
+pub returns-then-at-count : goal.returns-then-at-count
+returns-then-at-count c =
+    rw (digit_told _ _ _ c.if-at-count.true, look_whole _ _ c.args.at c.told-digits) (grind (arith, common_steps))
 
-pub returns-then-at-lt-DIGIT_ROOM : goal.returns-then-at-lt-DIGIT_ROOM
-returns-then-at-lt-DIGIT_ROOM c = c.wide.ensures.value ∙ digit_in _ _ _ c.if-count-at.false c.if-at-lt-DIGIT_ROOM.true
-
-pub returns-else-at-lt-DIGIT_ROOM : goal.returns-else-at-lt-DIGIT_ROOM
-returns-else-at-lt-DIGIT_ROOM c = digit_out _ _ _ c.if-count-at.false c.if-at-lt-DIGIT_ROOM.false
+pub returns-else-at-count : goal.returns-else-at-count
+returns-else-at-count c = digit_behind _ _ _ c.if-at-count.false

@@ -1,9 +1,12 @@
 -- `looking::is_split` meets its contract, by the kind. Assumes nothing.
-use Rattle.looking.proofs.LookLaws.{external_splits, other_splits}
+use Rattle.std.proofs.Common.{rules}
+use Rattle.looking.specs.code.Looking.{is_split}
 use Rattle.looking.proofs.is_split.Goals as goal
 
 pub returns-then-kind-eq-EXTERNAL_WORD : goal.returns-then-kind-eq-EXTERNAL_WORD
-returns-then-kind-eq-EXTERNAL_WORD c = external_splits _ c.if-kind-eq-EXTERNAL_WORD.true
+unfolding is_split
+returns-then-kind-eq-EXTERNAL_WORD c = search rules
 
-pub returns : goal.returns
-returns c = other_splits _ c.if-kind-eq-EXTERNAL_WORD.false
+pub returns-else-kind-eq-EXTERNAL_WORD : goal.returns-else-kind-eq-EXTERNAL_WORD
+unfolding is_split
+returns-else-kind-eq-EXTERNAL_WORD c = search rules

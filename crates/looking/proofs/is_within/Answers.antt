@@ -1,9 +1,12 @@
 -- `looking::is_within` meets its contract, by the frame and the plan. Assumes nothing.
-use Rattle.looking.proofs.LookLaws.{within_frame, within_plan}
+use Rattle.std.proofs.Common.{rules}
+use Rattle.looking.specs.code.Looking.{is_within}
 use Rattle.looking.proofs.is_within.Goals as goal
 
 pub returns-then-nested : goal.returns-then-nested
-returns-then-nested c = within_frame _ _ c.if-nested.true
+unfolding is_within
+returns-then-nested c = search rules
 
-pub returns : goal.returns
-returns c = within_plan _ _ c.if-nested.false
+pub returns-else-nested : goal.returns-else-nested
+unfolding is_within
+returns-else-nested c = search rules

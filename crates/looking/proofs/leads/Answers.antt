@@ -1,9 +1,12 @@
 -- `looking::leads` meets its contract, by the first reference and then the second. Assumes nothing.
-use Rattle.looking.proofs.LookLaws.{leads_first, leads_second}
+use Rattle.std.proofs.Common.{rules}
+use Rattle.looking.specs.code.Looking.{leads}
 use Rattle.looking.proofs.leads.Goals as goal
 
 pub returns-then-to-first : goal.returns-then-to-first
-returns-then-to-first c = leads_first _ _ _ c.if-to-first.true
+unfolding leads
+returns-then-to-first c = search rules
 
-pub returns : goal.returns
-returns c = leads_second _ _ _ c.if-to-first.false
+pub returns-else-to-first : goal.returns-else-to-first
+unfolding leads
+returns-else-to-first c = search rules

@@ -1,5 +1,5 @@
 -- `marks::event_mark` meets its contract: the sum is the definition's, within bounds. Assumes nothing.
-use mathlib.Core.Path.{refl}
+use Rattle.std.proofs.Common.{refl}
 use Rattle.marks.specs.words.Mark.{event_mark}
 use Rattle.marks.proofs.event_mark.Goals as goal
 

@@ -1,8 +1,13 @@
--- `marks::is_own` meets its contract: both tests are the definition's. Assumes nothing.
-use mathlib.Core.Path.{refl}
+-- `marks::is_own` meets its contract: the second test counts only where the first holds. Assumes nothing.
+use Rattle.std.proofs.Common.{le-leb}
+use Rattle.std.proofs.lemmas.Bool.{lt-leb}
 use Rattle.marks.specs.words.Mark.{is_own}
 use Rattle.marks.proofs.is_own.Goals as goal
 
-pub returns : goal.returns
+pub returns-then-mark-ge2 : goal.returns-then-mark-ge2
 unfolding is_own
-returns c = refl
+returns-then-mark-ge2 c = simp (le-leb 2 _ c.if-mark-ge2.true)
+
+pub returns-else-mark-ge2 : goal.returns-else-mark-ge2
+unfolding is_own
+returns-else-mark-ge2 c = simp (lt-leb 2 _ c.if-mark-ge2.false)

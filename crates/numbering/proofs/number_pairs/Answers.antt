@@ -1,6 +1,6 @@
 -- `numbering::number_pairs` meets its contract: the numbers of the pairs are put, read back, and put in order.
 -- Assumes nothing.
-use native.Mathlib.Omega.{arith}
+use Rattle.std.proofs.Common.{arith}
 use Rattle.links.proofs.Listed.{put_long}
 use Rattle.numbering.proofs.Assembled.{kept_fits, kept_sorted}
 use Rattle.numbering.proofs.number_pairs.Goals as goal

@@ -1,13 +1,12 @@
--- `numbers::number` meets its contract. The loop's invariant: what was read, and then the characters from 2 k
--- on, make the number of all the characters. The measure is how many bytes are left. Assumes nothing.
-use Prim.Native.Nat.{◌≤◌, ◌-◌, ◌*◌, ◌/◌}
-use mathlib.Core.Path.{◌≡◌}
-use lib.ListN.{length, drop}
+-- `numbers::number` meets its contract. The loop's invariant: what was read, and then the characters that are left, make the
+-- number of all the characters. Assumes nothing.
+use Rattle.std.proofs.Common.{◌≡◌}
+use Rattle.std.specs.Slice.Iter.{chunks_exact_rest, chunks_exact_size}
 use Rattle.numbers.specs.code.Numbers.{number_of}
 use Rattle.numbers.proofs.number.Given as goal
 
-abbrev pub invariant-loop-k : goal.invariant-loop-k
-invariant-loop-k l = (l.n ≡ length l.chars / 2) × (l.k ≤ l.n) × (number_of l.number (drop (2 * l.k) l.chars) ≡ number_of 0 l.chars)
-
-abbrev pub decreases-loop-k : goal.decreases-loop-k
-decreases-loop-k l = l.n - l.k
+abbrev pub invariant-loop-pair : goal.invariant-loop-pair
+invariant-loop-pair l = record {
+  in_pairs : chunks_exact_size l.pair-iterator ≡ 2;
+  left : number_of l.number (chunks_exact_rest l.pair-iterator) ≡ number_of 0 l.chars;
+}

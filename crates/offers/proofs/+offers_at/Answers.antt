@@ -1,9 +1,6 @@
-use Prim.Native.Nat.{◌-◌}
-use mathlib.Core.Path.{◌∙◌}
+use Rattle.std.proofs.Common.{◌-◌, ◌∙◌, rules, arith}
 use Rattle.offers.proofs.Returns.{level_less, fits_found, at_none, at_side, at_still, at_rest, at_crowded}
 use Rattle.offers.proofs.Returns.{at_split}
-use borrow.Author.Rules.{rules}
-use native.Mathlib.Omega.{arith}
 use Rattle.offers.proofs.+offers_at.Goals as goal
 
 pub returns-then-left-eq0 : goal.returns-then-left-eq0

@@ -1,6 +1,8 @@
-use mathlib.Core.Path.{◌∙◌}
+use Rattle.std.proofs.Common.{◌∙◌}
 use Rattle.offers.proofs.Returns.{one_less, term_none, term_low, term_high, term_apart, term_sequence}
 use Rattle.offers.proofs.Returns.{term_split}
+use Rattle.offers.proofs.+offers_of_term.Goals.{then-kind-lt-EXTERNAL_WORD-via-then-kind-lt-EXTERNAL_WORD}
+use Rattle.offers.proofs.+offers_of_term.Goals.{then-kind-lt-EXTERNAL_WORD-via-else-kind-lt-EXTERNAL_WORD+then-kind-gt-PARALLEL_WORD}
 use Rattle.offers.proofs.+offers_of_term.Goals as goal
 
 pub returns-then-left-eq0 : goal.returns-then-left-eq0
@@ -9,14 +11,14 @@ returns-then-left-eq0 t c = c.unseen.ensures ∙ term_none _ _ _ _ _ c.if-left-e
 pub returns-then-kind-lt-EXTERNAL_WORD : goal.returns-then-kind-lt-EXTERNAL_WORD
 returns-then-kind-lt-EXTERNAL_WORD t c =
     let more = one_less _ c.if-left-eq0.false in
-    term_low _ _ _ _ _ _ _ more c.kind_of-kind.ensures _ _ c.operand_of.ensures
-    c.if-kind-lt-EXTERNAL_WORD.true c.own.ensures
-
-pub returns-then-kind-gt-PARALLEL_WORD : goal.returns-then-kind-gt-PARALLEL_WORD
-returns-then-kind-gt-PARALLEL_WORD t c =
-    let more = one_less _ c.if-left-eq0.false in
-    term_high _ _ _ _ _ _ _ more c.kind_of-kind.ensures _ _ c.operand_of-then-kind-gt-PARALLEL_WORD.ensures
-    c.if-kind-gt-PARALLEL_WORD.true c.own-then-kind-gt-PARALLEL_WORD.ensures
+    elim c.then-kind-lt-EXTERNAL_WORD.branch [
+      | then-kind-lt-EXTERNAL_WORD-via-then-kind-lt-EXTERNAL_WORD w ↦
+          term_low _ _ _ _ _ _ _ more c.kind_of-kind.ensures _ _ c.operand_of.ensures
+          w.if-kind-lt-EXTERNAL_WORD.true c.own.ensures
+      | then-kind-lt-EXTERNAL_WORD-via-else-kind-lt-EXTERNAL_WORD+then-kind-gt-PARALLEL_WORD w ↦
+          term_high _ _ _ _ _ _ _ more c.kind_of-kind.ensures _ _ c.operand_of.ensures
+          w.if-kind-gt-PARALLEL_WORD.true c.own.ensures
+    ]
 
 pub returns-then-not-in_order : goal.returns-then-not-in_order
 returns-then-not-in_order t c =

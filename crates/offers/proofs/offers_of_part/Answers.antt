@@ -1,6 +1,6 @@
 -- `offers::offers_of_part` meets its contract: what is told at the part's reference, which of a part of a control is
 -- what it offers. Assumes nothing.
-use native.Mathlib.Omega.{arith}
+use Rattle.std.proofs.Common.{arith}
 use Rattle.rules.specs.Run.{cell_room}
 use Rattle.offers.proofs.Runs.{part_tells}
 use Rattle.offers.proofs.offers_of_part.Goals as goal

@@ -4,10 +4,7 @@ use Rattle.lines.specs.Line.{Raw, frame}
 use Rattle.graphs.specs.Parsed.{Frame, opening, node, arc, meeting, last, wrong, frame_of, the_last, refusal}
 use Rattle.graphs.specs.Parsed.{first_refusal}
 use Rattle.opening.specs.code.Phases.{by_frame, line_read}
-use Rattle.opening.specs.declared.TrackOpened.{TrackOpened}
-use Rattle.opening.specs.declared.TrackOpened.TheVariants.{Track, Fails}
-use Rattle.opening.specs.declared.Lines.{Lines}
-use Rattle.opening.specs.declared.Lines.TheVariants.{Goes, Stops}
+use Rattle.opening.specs.Answers.{TrackOpened, Track, Fails, Lines, Goes, Stops}
 
 -- line 1 by its frame, where the next line begins at `next`: the counts of a track
 unfoldable pub counts : ℕ → Frame → TrackOpened

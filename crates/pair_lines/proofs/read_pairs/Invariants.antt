@@ -1,11 +1,7 @@
 -- `pair_lines::read_pairs` meets its contract. The loop's invariant: so many pairs are read, their numbers stand in the words,
--- and all lines tell them with what the lines from the cursor on tell. The measure is how many are left. Assumes nothing.
-use Prim.Native.Nat.{◌-◌, ◌≤◌}
+-- and all lines tell them with what the lines from the cursor on tell. Assumes nothing.
 use Rattle.pair_lines.proofs.Laws.{PairsSofar}
 use Rattle.pair_lines.proofs.read_pairs.Given as goal
 
 abbrev pub invariant-loop-i : goal.invariant-loop-i
-invariant-loop-i l = (l.i ≤ l.count) × PairsSofar l.text l.code l.nodes l.count l.first l.from l.base l.initial.graph l.graph l.i l.at
-
-abbrev pub decreases-loop-i : goal.decreases-loop-i
-decreases-loop-i l = l.count - l.i
+invariant-loop-i l = PairsSofar l.text l.code l.nodes l.count l.first l.from l.base l.initial.graph l.graph l.i l.at

@@ -1,5 +1,5 @@
 -- `parts::whole` meets its contract: the whole control stands at its reference. Assumes nothing.
-use mathlib.Core.Path.{refl}
+use Rattle.std.proofs.Common.{refl}
 use Rattle.offers.specs.words.Told.{stepped}
 use Rattle.parts.proofs.whole.Goals as goal
 

@@ -1,7 +1,8 @@
 -- What following terms downward computes, whatever the columns hold: from term i, in at most so many
 -- digits, to term j, by the subterm that j stands in. `proofs/Laws.antt` shows that it is the path
 -- where the columns hold a term.
-use Rattle.std.specs.Prelude.{ℕ, zero, suc, ◌+◌, ◌&&◌, List, [], ◌∷◌, length, ltb, leb, eqb}
+use Rattle.std.specs.Prelude.{ℕ, zero, suc, ◌+◌, ◌&&◌, List, [], ◌∷◌, length, ltb, leb, eqb, Some, None}
+use Rattle.std.specs.Prelude as std
 use Rattle.std.proofs.Math.Option.{Option, none, some}
 use Rattle.lines.specs.Line.{choose}
 use Rattle.frames.specs.TableFrame.{term_room, path_room, definition_room}
@@ -9,10 +10,7 @@ use Rattle.kinds.specs.Kind.{subterms, prefix}
 use Rattle.places.specs.Place.{left_path, event_path}
 use Rattle.places.specs.declared.Literal.{Literal}
 use Rattle.places.specs.declared.Literal.TheVariants.{Left, Own, Event}
-use Rattle.places.specs.declared.Reached.{Reached}
-use Rattle.places.specs.declared.Reached.TheVariants.{Ends, Astray}
 use Rattle.places.specs.declared.Placed.{Placed}
-use Rattle.places.specs.declared.Placed.TheVariants.{At, Nowhere}
 use Rattle.columns.specs.words.Columns.{Columns, look}
 
 -- the way from a term i of n subterms to term j: to its second subterm, or to its first, by the digit 1 where
@@ -37,9 +35,9 @@ descended (suc f) ks xs i j =
     (descended f ks xs (next (subterms (look term_room ks i)) xs i j) j)))
 
 -- where a path ends that begins at a depth
-unfoldable pub reached : ℕ → Option (List ℕ) → Reached
-reached d none = Astray
-reached d (some w) = Ends (d + length w)
+unfoldable pub reached : ℕ → Option (List ℕ) → std.Option ℕ
+reached d none = None
+reached d (some w) = Some (d + length w)
 
 -- the digits of a path that there may be
 unfoldable pub digits : Option (List ℕ) → List ℕ
@@ -72,15 +70,14 @@ literal_definition c (Left d) = d
 literal_definition c (Own n) = look term_room c.owners n
 literal_definition c (Event n) = look term_room c.owners n
 
+-- the answer of n digits in definition d
+abbrev pub at : ℕ → ℕ → std.Option Placed
+at d n = Some (record { definition = d; length = n })
+
 -- the answer: the definition and how many digits the path has
-unfoldable pub told : ℕ → Option (List ℕ) → Placed
-told d none = Nowhere
-told d (some w) = At d (length w)
+unfoldable pub told : ℕ → Option (List ℕ) → std.Option Placed
+told d none = None
+told d (some w) = at d (length w)
 
--- the same by where the path ended
-unfoldable pub placed : ℕ → Reached → Placed
-placed d (Ends n) = At d n
-placed d Astray = Nowhere
-
-unfoldable pub answer : Columns → Literal → Placed
+unfoldable pub answer : Columns → Literal → std.Option Placed
 answer c l = told (literal_definition c l) (literal_path c l)

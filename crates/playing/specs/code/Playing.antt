@@ -3,12 +3,11 @@ use Rattle.std.specs.Prelude.{ℕ, List}
 use Rattle.std.proofs.lemmas.List.Edits.{sets}
 use Rattle.lines.specs.Line.{Raw}
 use Rattle.scripts.specs.Script as Script
-use Rattle.scripts.specs.declared.ScriptStep.{ScriptStep}
-use Rattle.scripts.specs.declared.ScriptStep.TheVariants as Line
-use Rattle.runs.specs.declared.Answer.{Answer}
-use Rattle.runs.specs.declared.Answer.TheVariants.{Accepted, Refused}
-use Rattle.playing.specs.declared.Played.{Played}
-use Rattle.playing.specs.declared.Played.TheVariants as Comes
+use Rattle.scripts.specs.ScriptStep.{ScriptStep}
+use Rattle.scripts.specs.ScriptStep as Line
+use Rattle.runs.specs.Answer.{Answer, Accepted, Refused}
+use Rattle.playing.specs.Played.{Played}
+use Rattle.playing.specs.Played as Comes
 use Rattle.runs.specs.code.Doors.{Stepped, stepped}
 
 -- what a line of a script comes to, with the words after it
@@ -24,11 +23,6 @@ with_played r w g c = record { played = r; nodes = w; track = g; counters = c }
 unfoldable pub of_answer : ℕ → Answer → Played
 of_answer next (Accepted s) = Comes.Stepped s.event next
 of_answer next (Refused n) = Comes.Refused n
-
-unfoldable pub without_step : ScriptStep → Played
-without_step (Line.Address n next) = Comes.End
-without_step (Line.Refused n) = Comes.Refused n
-without_step Line.End = Comes.End
 
 module _ (p x w g c : List ℕ) where
   abbrev pub unplayed : Played → LinePlayed

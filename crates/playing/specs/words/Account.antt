@@ -10,8 +10,7 @@ use Rattle.rules.specs.Run as Run
 use Rattle.plans.specs.words.Plan.{Layout}
 use Rattle.runs.specs.words.Held.{Table, Holds, behind, Words}
 use Rattle.playing.specs.LineAnswer.{line_answer}
-use Rattle.playing.specs.declared.Played.{Played}
-use Rattle.playing.specs.declared.Played.TheVariants.{Stepped, Refused, End}
+use Rattle.playing.specs.Played.{Played, Stepped, Refused, End}
 
 -- the answer's case for each of document 01's, with its number and values; the line behind begins at `next`
 unfoldable pub line_told : ℕ → Run.Answer → Played

@@ -1,25 +1,29 @@
 -- `reading::judge` meets its contract: lines that are refused decide, and the scratch is cleared; else the columns hold the
 -- graph that they say, and the test of its shape decides, which leaves the scratch all 0. Assumes nothing.
-use mathlib.Core.Bool.{not}
-use mathlib.Core.Path.{refl, ap}
+use Rattle.std.proofs.Common.{not, refl, ap}
+use Rattle.lines.specs.Refusal.{number}
+use Rattle.reading.specs.Answers.{read_told}
 use Rattle.reading.proofs.Promises.{lines_refused, rules_decide}
 use Rattle.reading.proofs.judge.Goals as goal
 
 pub returns-in_default : goal.returns-in_default
+unfolding read_told
 returns-in_default c =
-    let judged = lines_refused _ _ _ _ _ _ _ c.read_lines-read.ensures c.in_default.is in
+    let judged = lines_refused _ _ _ _ _ _ _ c.read_lines-read.ensures (ap read_told c.in_default.is) in
     record { held = judged; sides_after = refl; pending_after = refl; numbers_after = refl; walked_after = refl }
 
 pub returns-then-not-fits : goal.returns-then-not-fits
+unfolding number read_told
 returns-then-not-fits c =
     let lines = c.read_lines-read.ensures in
-    let judged = rules_decide _ _ _ _ _ _ _ lines c.in-Accepted.is c.has_shape-fits.ensures.value
+    let judged = rules_decide _ _ _ _ _ _ _ lines (ap read_told c.in-Ok.is) c.has_shape-fits.ensures.value
     (ap not c.if-not-fits.true) in
-    record { held = judged; sides_after = c.has_shape-fits.ensures.sides_after; pending_after = c.has_shape-fits.ensures.pending_after; numbers_after = c.has_shape-fits.ensures.numbers_after; walked_after = c.has_shape-fits.ensures.walked_after }
+    record { held = rw (c.at.ensures.0, c.at.ensures.1) judged; sides_after = c.has_shape-fits.ensures.sides_after; pending_after = c.has_shape-fits.ensures.pending_after; numbers_after = c.has_shape-fits.ensures.numbers_after; walked_after = c.has_shape-fits.ensures.walked_after }
 
 pub returns : goal.returns
+unfolding read_told
 returns c =
     let lines = c.read_lines-read.ensures in
-    let judged = rules_decide _ _ _ _ _ _ _ lines c.in-Accepted.is c.has_shape-fits.ensures.value
+    let judged = rules_decide _ _ _ _ _ _ _ lines (ap read_told c.in-Ok.is) c.has_shape-fits.ensures.value
     (ap not c.if-not-fits.false) in
     record { held = judged; sides_after = c.has_shape-fits.ensures.sides_after; pending_after = c.has_shape-fits.ensures.pending_after; numbers_after = c.has_shape-fits.ensures.numbers_after; walked_after = c.has_shape-fits.ensures.walked_after }

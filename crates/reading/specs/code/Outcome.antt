@@ -10,13 +10,8 @@ use Rattle.graphs.specs.Parsed.{parsed}
 use Rattle.links.specs.words.Columns.{flat, counts_of}
 use Rattle.walks.specs.code.Walked.{laid}
 use Rattle.finding.specs.code.Found.{marks_of}
-use Rattle.opening.specs.declared.TrackOpened.{TrackOpened}
-use Rattle.opening.specs.declared.TrackOpened.TheVariants.{Track, Fails}
-use Rattle.opening.specs.declared.Lines.{Lines}
-use Rattle.opening.specs.declared.Lines.TheVariants.{Goes, Stops}
 use Rattle.shapes.specs.code.Rules.{shaped}
-use Rattle.reading.specs.declared.Read.{Read}
-use Rattle.reading.specs.declared.Read.TheVariants.{Accepted, Refused}
+use Rattle.reading.specs.Answers.{Read, Accepted, Refused}
 
 -- the words of a graph's arcs and meetings
 abbrev pub track_of : Graph → List ℕ
@@ -60,15 +55,6 @@ module _ (ks xs rs : List ℕ) where
 -- what reading a text comes to, for a table of d definitions
 abbrev pub track_read : List ℕ → List ℕ → List ℕ → List ℕ → ℕ → List ℕ → List ℕ → List ℕ → TrackRead
 track_read ks ps xs rs d text labels graph = by_outcome ks xs rs (outcome ks ps xs rs d text) labels graph
-
--- the answer for line 1 that fails, and for a later line that stops the work
-unfoldable pub failed : TrackOpened → Read
-failed (Track n a s next) = Refused 0 1
-failed (Fails k) = Refused k 1
-
-unfoldable pub stopped : Lines → Read
-stopped (Goes next) = Refused 0 0
-stopped (Stops k l) = Refused k l
 
 -- a column that is handed over where a text is accepted
 unfoldable pub handed : Read → List ℕ → List ℕ → List ℕ

@@ -5,7 +5,7 @@ use Rattle.tables.specs.words.Columns.{TableOf}
 use Rattle.terms.specs.Term.{definitions_of}
 use Rattle.graphs.specs.Shape.{read}
 use Rattle.reading.specs.code.Outcome.{with_graph, by_outcome}
-use Rattle.reading.specs.declared.Read.{Read}
+use Rattle.reading.specs.Answers.{Read}
 use Rattle.columns.specs.words.Columns.{Columns, with_owners}
 
 -- what reading owes a table of d definitions, whose owners it does not look at: the answer and the columns afterwards are those

@@ -1,17 +1,18 @@
--- `refusals::closing_refusal` meets its contract. Each return is the law of the last line at the test
--- where it stands. Assumes nothing.
-use mathlib.Core.Path.{sym}
-use Rattle.refusals.proofs.Refusals.{closing_miscounts, closing_due, closing_early, closing_fine}
+-- `refusals::closing_refusal` meets its contract: at each return the tests before it tell which refusal it is. Assumes nothing.
+use Rattle.std.proofs.Common.{arith}
+use Rattle.std.proofs.lemmas.Bool.Decides.{nat_tests}
+use Rattle.lines.specs.Refusal.{told, number}
+use Rattle.frames.specs.TableFrame.{refusal}
 use Rattle.refusals.proofs.closing_refusal.Goals as goal
 
 pub returns-then-count-s : goal.returns-then-count-s
-returns-then-count-s c = sym (closing_miscounts _ _ c.if-count-s.true)
+unfolding told number refusal
+returns-then-count-s c = grind (arith, nat_tests)
 
 pub returns-then-s-gt0 : goal.returns-then-s-gt0
-returns-then-s-gt0 c = sym (closing_due _ _ c.if-count-s.false c.if-s-gt0.true)
-
-pub returns-then-s : goal.returns-then-s
-returns-then-s c = sym (closing_early _ _ c.if-count-s.false c.if-s-gt0.false c.if-s.true)
+unfolding told number refusal
+returns-then-s-gt0 c = grind (arith, nat_tests)
 
 pub returns : goal.returns
-returns c = sym (closing_fine _ _ c.if-count-s.false c.if-s-gt0.false c.if-s.false)
+unfolding told number refusal
+returns c = grind (arith, nat_tests)

@@ -1,18 +1,18 @@
--- `refusals::definition_refusal` meets its contract. Each return is the law of a definition at the
--- test where it stands. Assumes nothing.
-use mathlib.Core.Path.{sym}
-use Rattle.refusals.proofs.Refusals.{definition_other, definition_past, definition_early}
-use Rattle.refusals.proofs.Refusals.{definition_fine}
+-- `refusals::definition_refusal` meets its contract: at each return the tests before it tell which refusal it is. Assumes nothing.
+use Rattle.std.proofs.Common.{arith}
+use Rattle.std.proofs.lemmas.Bool.Decides.{nat_tests}
+use Rattle.lines.specs.Refusal.{told, number}
+use Rattle.frames.specs.TableFrame.{refusal}
 use Rattle.refusals.proofs.definition_refusal.Goals as goal
 
 pub returns-then-number-s : goal.returns-then-number-s
-returns-then-number-s c = sym (definition_other _ _ c.if-number-s.true)
-
-pub returns-then-s-number : goal.returns-then-s-number
-returns-then-s-number c = sym (definition_past _ _ c.if-number-s.false c.if-s-number.true)
+unfolding told number refusal
+returns-then-number-s c = grind (arith, nat_tests)
 
 pub returns-then-s-ne0 : goal.returns-then-s-ne0
-returns-then-s-ne0 c = sym (definition_early _ _ c.if-number-s.false c.if-s-number.false c.if-s-ne0.true)
+unfolding told number refusal
+returns-then-s-ne0 c = grind (arith, nat_tests)
 
 pub returns : goal.returns
-returns c = sym (definition_fine _ _ c.if-number-s.false c.if-s-number.false c.if-s-ne0.false)
+unfolding told number refusal
+returns c = grind (arith, nat_tests)

@@ -1,17 +1,13 @@
--- `refusals::opening_outside` meets its contract. Each return is the law of line 1 at the test where
--- it stands. Assumes nothing.
-use mathlib.Core.Path.{sym}
-use Rattle.refusals.proofs.Refusals.{outside_edition, outside_none, outside_many, outside_events}
+-- `refusals::opening_outside` meets its contract: the tests are those of line 1's number, each told the other way. Assumes nothing.
+use Rattle.std.proofs.Common.{arith}
+use Rattle.std.proofs.lemmas.Bool.Decides.{nat_tests}
+use Rattle.frames.specs.TableFrame.{first_refusal}
 use Rattle.refusals.proofs.opening_outside.Goals as goal
 
-pub returns-then-edition-ne-TABLE_EDITION : goal.returns-then-edition-ne-TABLE_EDITION
-returns-then-edition-ne-TABLE_EDITION c = sym (outside_edition _ _ _ c.if-edition-ne-TABLE_EDITION.true)
-
-pub returns-then-definitions-lt1 : goal.returns-then-definitions-lt1
-returns-then-definitions-lt1 c = sym (outside_none _ _ _ c.if-edition-ne-TABLE_EDITION.false c.if-definitions-lt1.true)
-
 pub returns-then-definitions-gt-MOST_DEFINITIONS : goal.returns-then-definitions-gt-MOST_DEFINITIONS
-returns-then-definitions-gt-MOST_DEFINITIONS c = sym (outside_many _ _ _ c.if-edition-ne-TABLE_EDITION.false c.if-definitions-lt1.false c.if-definitions-gt-MOST_DEFINITIONS.true)
+unfolding first_refusal
+returns-then-definitions-gt-MOST_DEFINITIONS c = grind (arith, nat_tests)
 
-pub returns : goal.returns
-returns c = sym (outside_events _ _ _ c.if-edition-ne-TABLE_EDITION.false c.if-definitions-lt1.false c.if-definitions-gt-MOST_DEFINITIONS.false)
+pub returns-else-definitions-gt-MOST_DEFINITIONS : goal.returns-else-definitions-gt-MOST_DEFINITIONS
+unfolding first_refusal
+returns-else-definitions-gt-MOST_DEFINITIONS c = grind (arith, nat_tests)

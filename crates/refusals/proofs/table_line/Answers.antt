@@ -1,28 +1,27 @@
 -- `refusals::table_line` meets its contract. What each call promises makes the line at the cursor
--- none, or one whose frame is the one read and meets the number found. Assumes nothing.
+-- none, or one whose frame is the one read and meets the refusal found. Assumes nothing.
+use Rattle.std.proofs.lemmas.Result.{err_from_is_err_and}
+use Rattle.lines.specs.Refusal.{told}
 use Rattle.frames.specs.TableFrame.{refusal}
-use Rattle.refusals.proofs.Cursor.{said_none, said_stops, said_goes}
+use Rattle.refusals.specs.code.Said.{line_told}
+use Rattle.refusals.proofs.Cursor.{said_none, frame_at, said_stops, said_goes}
 use Rattle.refusals.proofs.table_line.Goals as goal
 
-pub returns-in_default : goal.returns-in_default
-returns-in_default c = said_none _ _ c.next_line-line.ensures c.in_default.not-Found _ c.refusal_of.ensures
+pub returns-in_err-end : goal.returns-in_err-end
+unfolding line_told
+returns-in_err-end c =
+    let is = err_from_is_err_and c.from_residual.result c.from_residual.ensures.1 in
+    rw (is.1, is.2) (said_none _ _ c.next_line.ensures c.in_err-end.ensures _)
 
-pub returns-then-number-ne0 : goal.returns-then-number-ne0
-returns-then-number-ne0 c =
-    said_stops _ _ _ _ c.next_line-line.ensures
-    c.in-Found.is
-    c.characters.ensures
-    c.read_frame-frame.ensures
-    (λ f. refusal f c.args.s)
-    c.refusal-number.ensures
-    c.if-number-ne0.true
+pub returns-in_err-refusal : goal.returns-in_err-refusal
+unfolding told line_told
+returns-in_err-refusal c =
+    let i = frame_at _ c.args.at c.next_line.ensures c.in_ok-end.ensures c.characters.ensures c.read_frame-frame.ensures in
+    let is = err_from_is_err_and c.from_residual-in_err-refusal.result c.from_residual-in_err-refusal.ensures.1 in
+    rw (is.1, is.2) (said_stops i (λ f. refusal f c.args.s) _ c.in_err-refusal.ensures)
 
 pub returns : goal.returns
+unfolding told line_told
 returns c =
-    said_goes _ _ _ _ c.next_line-line.ensures
-    c.in-Found.is
-    c.characters.ensures
-    c.read_frame-frame.ensures
-    (λ f. refusal f c.args.s)
-    c.refusal-number.ensures
-    c.if-number-ne0.false
+    let i = frame_at _ c.args.at c.next_line.ensures c.in_ok-end.ensures c.characters.ensures c.read_frame-frame.ensures in
+    said_goes i (λ f. refusal f c.args.s) c.in_ok-refusal.ensures

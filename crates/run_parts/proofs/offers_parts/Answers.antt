@@ -9,4 +9,4 @@ returns-then-unready-ne-DONE c = offers_untouched _ _ _ c.unready-unready.ensure
 pub returns : goal.returns
 returns c =
     offers_found _ _ _ c.unready-unready.ensures _ _ _ _ _ c.if-unready-ne-DONE.false _
-    c.wide.ensures _ c.offers-offered.ensures.result_value _ c.of_offers.ensures
+    c.from.ensures _ c.offers-offered.ensures.result_value _ c.of_offers.ensures

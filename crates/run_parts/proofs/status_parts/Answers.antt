@@ -9,4 +9,4 @@ returns-then-unready-ne-DONE c = status_untouched _ _ _ c.unready-unready.ensure
 pub returns : goal.returns
 returns c =
     status_found _ _ _ c.unready-unready.ensures _ _ _ _ c.if-unready-ne-DONE.false _
-    c.wide.ensures _ c.status_at.ensures.value _ c.of_status.ensures
+    c.from.ensures _ c.status_at.ensures.value _ c.of_status.ensures

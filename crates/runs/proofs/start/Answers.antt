@@ -1,6 +1,6 @@
 -- `runs::start` meets its contract: the words are those of a run that has just been started, which hold it. Assumes
 -- nothing.
-use mathlib.Core.Path.{refl}
+use Rattle.std.proofs.Common.{refl}
 use Rattle.runs.proofs.Promises.{begins}
 use Rattle.runs.proofs.start.Goals as goal
 

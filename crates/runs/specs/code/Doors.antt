@@ -3,14 +3,13 @@ use Rattle.std.specs.Prelude.{ℕ, zero, suc, List, [], ◌∷◌, replicate, eq
 use Rattle.lines.specs.Line.{choose}
 use Rattle.rules.specs.declared.Event.TheVariants.{Tau}
 use Rattle.weighing.specs.code.Weigh.{at_reference}
-use Rattle.weights.specs.declared.Weighed.{Weighed}
-use Rattle.weights.specs.declared.Weighed.TheVariants.{Derived, Nothing}
+use Rattle.weights.specs.code.Rules.{Weighed}
+use Rattle.std.specs.Prelude.{Some, None}
 use Rattle.leaves.specs.code.Leaves.{Done, called}
 use Rattle.stepping.specs.code.Take.{take}
 use Rattle.counting.specs.code.Counting.{reference, cells, arcs, over_room, tally_of, recounted}
 use Rattle.control.specs.words.Words.{track_words}
-use Rattle.runs.specs.declared.Answer.{Answer}
-use Rattle.runs.specs.declared.Answer.TheVariants.{Accepted, Refused}
+use Rattle.runs.specs.Answer.{Answer, Accepted, Refused}
 
 -- a run that has just been started
 abbrev pub fresh_nodes : List ℕ
@@ -25,7 +24,7 @@ fresh_counters = 0 ∷ 1 ∷ 1 ∷ 0 ∷ 0 ∷ 0 ∷ 0 ∷ 0 ∷ []
 -- the start's call labels its node and draws once
 abbrev pub start_weight : Weighed
 start_weight =
-    Derived (record { event = Tau; at = 0; size = 1; nodes = 1; arcs = 1; meetings = 0; met = 0 })
+    Some (record { event = Tau; at = 0; size = 1; nodes = 1; arcs = 1; meetings = 0; met = 0 })
 
 -- how deep control and the terms below it are gone down to
 abbrev pub control_levels : ℕ
@@ -70,8 +69,8 @@ module _ (p x : List ℕ) (count : ℕ) (ds w g c : List ℕ) where
   by_room (suc n) = refused (suc n)
 
   unfoldable pub by_weight : Weighed → Stepped
-  by_weight Nothing = refused 7
-  by_weight (Derived d) = choose (eqb d.at count) (by_room (over_room d c)) (refused 7)
+  by_weight None = refused 7
+  by_weight (Some d) = choose (eqb d.at count) (by_room (over_room d c)) (refused 7)
 
   unfoldable pub stepped : Stepped
   stepped = by_weight (weight p x count ds w g c)

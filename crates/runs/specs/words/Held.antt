@@ -18,8 +18,7 @@ use Rattle.looking.specs.code.Looking.{digit_at}
 use Rattle.control.specs.words.Views.{arcs_of, meetings_of, marked}
 use Rattle.offers.specs.words.Told.{Low, Controls}
 use Rattle.counting.specs.code.Counting.{reference, fresh, cells, nodes, arcs, meetings}
-use Rattle.runs.specs.declared.Answer.{Answer}
-use Rattle.runs.specs.declared.Answer.TheVariants.{Accepted, Refused}
+use Rattle.runs.specs.Answer.{Answer, Accepted, Refused}
 use Rattle.rules.specs.Track.{lookup}
 use Rattle.rules.specs.Addressed.{digit_of, with_digit, answered}
 

@@ -10,7 +10,7 @@ use Rattle.runs.specs.words.Held.{Words, Holds}
 use Rattle.graphs.specs.Graph.{graph_of}
 use Rattle.graphs.specs.Saved.{saved}
 use Rattle.writing.specs.words.Slice.{with_slice, written}
-use Rattle.writing.specs.declared.Saved.{Saved}
+use Rattle.writing.specs.Answers.{Saved}
 
 -- what saving owes a run of a checked table, whose payloads it does not look at: where the words hold it, the answer and the
 -- slice are those of its saved text

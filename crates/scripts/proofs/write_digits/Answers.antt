@@ -1,20 +1,13 @@
-use mathlib.Core.Path.{refl, sym, ◌∙◌}
-use borrow.Author.Rules.{rules}
-use native.Mathlib.Omega.{arith}
+use Rattle.std.proofs.Common.{sym, ◌∙◌, arith}
 use Rattle.scripts.proofs.Judged.{digit_stored, digits_stored}
 use Rattle.scripts.proofs.write_digits.Goals as goal
 
-pub loop-i-init : goal.loop-i-init
-loop-i-init c = (search rules, refl)
-
 pub loop-i-preserved : goal.loop-i-preserved
 loop-i-preserved c =
-    let l = c.loop-i in (
-      search rules,
-      digit_stored _ l.digits l.i _ c.byte.ensures (omega arith) ∙ l.invariant.1,
-    )
+    let l = c.loop-i in
+    digit_stored _ l.digits l.i _ c.byte.ensures (omega arith) ∙ l.invariant
 
 pub returns : goal.returns
 returns c =
     let l = c.loop-i in
-    sym (digits_stored _ l.digits l.i (omega arith)) ∙ l.invariant.1
+    sym (digits_stored _ l.digits l.i (omega arith)) ∙ l.invariant

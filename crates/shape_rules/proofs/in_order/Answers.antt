@@ -1,30 +1,14 @@
-use native.Mathlib.Omega.{arith}
-use Rattle.graphs.specs.Shape.{from_on}
-use Rattle.shape_rules.proofs.RuleTests.{told_equal, told_other, numbers_listed, none_tested}
-use Rattle.shape_rules.proofs.RuleTests.{test_passed, test_failed, all_passed}
+-- `shape_rules::in_order` meets its contract, number by number. Assumes nothing.
+use Rattle.std.proofs.Common.{◌+◌, eqb, refl, rules, tests, ◌∙◌}
+use native.Mathlib.Nat.{sub-zero}
+use Rattle.std.proofs.lemmas.Iterator.{YieldsList-from_range}
+use Rattle.std.proofs.lemmas.Iterator.Search.{all_from_yields_List}
+use Rattle.links.specs.words.Columns.{at}
+use Rattle.shape_rules.proofs.RuleTests.{every_ranged}
 use Rattle.shape_rules.proofs.in_order.Goals as goal
 
-pub loop-k-init : goal.loop-k-init
-loop-k-init c = none_tested _ from_on _
-
-pub overflow_add-k : goal.overflow_add-k
-overflow_add-k c = omega arith
-
-pub returns-then-reference_word-k : goal.returns-then-reference_word-k
-returns-then-reference_word-k c =
-    test_failed _ numbers_listed _ _ c.loop-k.invariant c.loop-k-test.true
-    (told_other c.reference_word.ensures _ c.if-reference_word-k.true)
-
-pub overflow_add-k-in-loop-k : goal.overflow_add-k-in-loop-k
-overflow_add-k-in-loop-k c = omega arith
-
-pub loop-k-smaller : goal.loop-k-smaller
-loop-k-smaller c = omega arith
-
-pub loop-k-preserved : goal.loop-k-preserved
-loop-k-preserved c =
-    test_passed _ numbers_listed _ _ c.loop-k.invariant c.loop-k-test.true
-    (told_equal c.reference_word.ensures _ c.if-reference_word-k.false)
-
 pub returns : goal.returns
-returns c = all_passed _ numbers_listed _ _ c.loop-k.invariant c.loop-k-test.false
+returns c =
+    all_from_yields_List (λ k. eqb (at c.args.numbers.now k) (k + 1)) _ _ _ c.all.ensures.ran
+    (YieldsList-from_range 0 c.args.nodes c.args.nodes refl (sub-zero c.args.nodes)) (λ x b q k. search (rules, tests))
+    ∙ every_ranged _ 0 _

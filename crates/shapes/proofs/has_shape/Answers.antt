@@ -1,6 +1,6 @@
 -- `shapes::has_shape` meets its contract: what its parts tell, one behind the other, is all the rules. The walk leaves its own
 -- scratch all 0, and the rest is cleared behind it. Assumes nothing.
-use mathlib.Core.Path.{refl}
+use Rattle.std.proofs.Common.{refl}
 use Rattle.shapes.proofs.ShapeTested.{rules_tested}
 use Rattle.shapes.proofs.has_shape.Goals as goal
 
@@ -10,8 +10,8 @@ returns c =
     record {
       value = rules_tested args.kinds.now args.payloads.now args.after.now args.labels.now args.graph.now
           args.nodes args.arcs args.meetings c.all_marked.ensures
-          c.at_most.ensures c.ascend.ensures (c.link-fits.ensures.value, c.link-fits.ensures.sides_after) c.walk-reached.ensures.labels_after
-          c.in_order-ordered.ensures c.at_most-count.ensures c.ascend-2.ensures
+          c.min.ensures c.ascend.ensures (c.link-fits.ensures.value, c.link-fits.ensures.sides_after) c.walk-reached.ensures.labels_after
+          c.in_order-ordered.ensures c.min-count.ensures c.ascend-2.ensures
           c.join_events.ensures;
       sides_after = refl;
       pending_after = c.walk-reached.ensures.pending_after;

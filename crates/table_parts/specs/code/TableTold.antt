@@ -3,8 +3,8 @@ use Rattle.std.specs.Prelude.{ℕ, List, [], ◌∷◌}
 use Rattle.lines.specs.Judging.{Judged}
 use Rattle.tables.specs.Table.{Sofar}
 use Rattle.tables.specs.words.Columns.{Outcome, outcome}
-use Rattle.tables.specs.declared.Checked.{Checked}
-use Rattle.tables.specs.declared.Checked.TheVariants as Table
+use Rattle.tables.specs.Checked.{Checked}
+use Rattle.tables.specs.Checked as Table
 use Rattle.columns.specs.words.Columns.{Columns}
 use Rattle.plans.specs.code.Laid.{laid_out}
 use Rattle.answers.specs.Numbers as told

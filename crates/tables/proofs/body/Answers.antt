@@ -1,46 +1,58 @@
-use mathlib.Core.Path.{◌∙◌, sym}
-use native.Mathlib.Omega.{arith}
-use Rattle.tables.proofs.Judged.{stops_is}
-use Rattle.tables.proofs.Loop.{going_starts, going_stops, going_on, going_ready, going_closes}
-use Rattle.tables.proofs.Loop.{going_turn}
+use Rattle.std.proofs.Common.{Err, ◌≡◌, ◌∙◌, sym, ap, arith, rules}
+use Rattle.std.proofs.lemmas.Result.{err_from_is_err_and}
+use Rattle.refusals.specs.code.Said.{line_told}
+use Rattle.tables.specs.Checked.{checked_told}
+use Rattle.tables.proofs.Told.{changed, goes_told}
+use Rattle.tables.proofs.Loop.{going_starts, going_stops, going_on, going_ready, going_closes, going_turn}
 use Rattle.tables.proofs.body.Goals as goal
 
 pub loop-frame-init : goal.loop-frame-init
 loop-frame-init c = going_starts _ _ _ _ _ _ _ _ c.requires
 
-pub returns-in_default : goal.returns-in_default
-returns-in_default c =
-    let stops = stops_is _ _ _ c.in_default.is c.stop_of.ensures in
-    going_stops c.loop-frame.invariant _ (stops ∙ c.table_line-said.ensures)
+pub returns-in_err-frame : goal.returns-in_err-frame
+unfolding line_told checked_told
+returns-in_err-frame c =
+    let was = changed _ _ _ c.map_err.ensures.cases c.in_err-frame.was in
+    let e = c.in_err-frame.field-0.0 in
+    let put : (e.refusal ≡ was.0) × (e.line ≡ c.loop-frame.line) = search rules in
+    let stops = sym (ap line_told (was.1 ∙ ap (λ r. Err r) (sym put.0))) ∙ c.table_line-said.ensures in
+    let is = err_from_is_err_and c.from_residual.result c.from_residual.ensures.1 in
+    rw (is.1, is.2, put.1) (going_stops c.loop-frame.invariant _ stops)
 
 pub overflow_add-line : goal.overflow_add-line
 overflow_add-line c =
     let going = c.loop-frame.invariant in
-    let on = going_on going (sym c.in-Goes.is ∙ c.table_line-said.ensures) in
-    omega (arith, going.counted, c.well_formed.0, on)
+    let goes = goes_told _ _ _ c.map_err.ensures.cases c.in_ok-frame.was c.table_line-said.ensures in
+    omega (arith, going.counted, c.well_formed.0, going_on going goes)
 
 pub returns-then-closes : goal.returns-then-closes
 returns-then-closes c =
-    let said = sym c.in-Goes.is ∙ c.table_line-said.ensures in
+    let goes = goes_told _ _ _ c.map_err.ensures.cases c.in_ok-frame.was c.table_line-said.ensures in
     let last = sym c.closes.ensures ∙ c.if-closes.true in
-    going_closes c.loop-frame.invariant said last _ c.closed.ensures
+    going_closes c.loop-frame.invariant goes last _ c.closed.ensures
 
 pub take-s-requires : goal.take-s-requires
-take-s-requires c = going_ready c.loop-frame.invariant (sym c.in-Goes.is ∙ c.table_line-said.ensures)
+take-s-requires c =
+    let goes = goes_told _ _ _ c.map_err.ensures.cases c.in_ok-frame.was c.table_line-said.ensures in
+    going_ready c.loop-frame.invariant goes
 
 pub overflow_add-line-in-loop-frame : goal.overflow_add-line-in-loop-frame
 overflow_add-line-in-loop-frame c =
     let going = c.loop-frame.invariant in
-    let on = going_on going (sym c.in-Goes.is ∙ c.table_line-said.ensures) in
-    omega (arith, going.counted, c.well_formed.0, on)
+    let goes = goes_told _ _ _ c.map_err.ensures.cases c.in_ok-frame.was c.table_line-said.ensures in
+    omega (arith, going.counted, c.well_formed.0, going_on going goes)
 
 pub loop-frame-smaller : goal.loop-frame-smaller
-loop-frame-smaller c = omega (arith, going_on c.loop-frame.invariant (sym c.in-Goes.is ∙ c.table_line-said.ensures))
+loop-frame-smaller c =
+    let goes = goes_told _ _ _ c.map_err.ensures.cases c.in_ok-frame.was c.table_line-said.ensures in
+    omega (arith, going_on c.loop-frame.invariant goes)
 
 pub loop-frame-preserved : goal.loop-frame-preserved
 loop-frame-preserved c =
-    let said = sym c.in-Goes.is ∙ c.table_line-said.ensures in
+    let goes = goes_told _ _ _ c.map_err.ensures.cases c.in_ok-frame.was c.table_line-said.ensures in
     let more = sym c.closes.ensures ∙ c.if-closes.false in
-    going_turn c.loop-frame.invariant said more _ _ _ _ _ _ c.take-s.ensures.value c.take-s.ensures.waiting_after c.take-s.ensures.kinds_after c.take-s.ensures.payloads_after
-    c.take-s.ensures.owners_after
-    c.take-s.ensures.roots_after
+    let taken = c.take-s.ensures in
+    going_turn c.loop-frame.invariant goes more _ _ _ _ _ _ taken.value taken.waiting_after taken.kinds_after
+    taken.payloads_after
+    taken.owners_after
+    taken.roots_after

@@ -1,43 +1,61 @@
 -- `tables::check` meets its contract. A text over its room, one whose line 1 fails and one whose lines behind
 -- it are refused leave the columns as they were; else what `body` and `walk` leave in the check's own columns
 -- is what the table's columns are. Assumes nothing.
-use mathlib.Core.Path.{◌∙◌, sym, ap, refl}
+use Rattle.std.proofs.Common.{Err, ◌≡◌, ◌∙◌, sym, ap, refl, rules}
+use Rattle.std.proofs.lemmas.Result.{err_from_is_err_and}
+use Rattle.lines.specs.Refusal.{number}
+use Rattle.refusals.specs.code.Said.{first_told}
+use Rattle.tables.specs.Checked.{checked_told}
 use Rattle.tables.specs.words.Columns.{answer}
+use Rattle.tables.proofs.Told.{changed, table_told, refused_told}
 use Rattle.tables.proofs.Whole.{table_opens, table_fails, judged_within, judged_over, answer_refuses}
-use Rattle.tables.proofs.Whole.{answer_accepts, refuses, accepts, failure_is}
+use Rattle.tables.proofs.Whole.{answer_accepts, refuses, accepts}
 use Rattle.tables.proofs.check.Goals as goal
 
 pub returns-then-text-gt-TABLE_TEXT_ROOM : goal.returns-then-text-gt-TABLE_TEXT_ROOM
-returns-then-text-gt-TABLE_TEXT_ROOM c = refuses _ _ _ _ _ refl (judged_over _ c.if-text-gt-TABLE_TEXT_ROOM.true)
+unfolding number
+returns-then-text-gt-TABLE_TEXT_ROOM c =
+    refuses _ _ _ _ _ (refused_told _ c.at.ensures) (judged_over _ c.if-text-gt-TABLE_TEXT_ROOM.true)
 
-pub returns-in_default : goal.returns-in_default
-returns-in_default c =
-    let told = failure_is _ _ _ c.in_default.is c.failure_of.ensures in
-    let fails = table_fails _ _ (sym c.first_line-first.ensures ∙ told) in
-    refuses _ _ _ _ _ refl (judged_within _ c.if-text-gt-TABLE_TEXT_ROOM.false ∙ fails)
+pub returns-in_err-opening : goal.returns-in_err-opening
+unfolding first_told checked_told
+returns-in_err-opening c =
+    let was = changed _ _ _ c.map_err.ensures.cases c.in_err-opening.was in
+    let e = c.in_err-opening.field-0.0 in
+    let put : (e.refusal ≡ was.0) × (e.line ≡ 1) = search rules in
+    let fails = sym c.first_line.ensures ∙ ap first_told (was.1 ∙ ap (λ r. Err r) (sym put.0)) in
+    let is = err_from_is_err_and c.from_residual.result c.from_residual.ensures.1 in
+    let all = judged_within _ c.if-text-gt-TABLE_TEXT_ROOM.false ∙ table_fails _ _ fails in
+    rw (is.1, is.2, put.1) (refuses _ _ _ _ _ refl all)
 
-pub body-checked-requires : goal.body-checked-requires
-body-checked-requires c = (table_opens _ _ _ _ (sym c.first_line-first.ensures ∙ c.in-Table.is)).1
+pub body-requires : goal.body-requires
+body-requires c =
+    let opens = table_told _ _ _ c.map_err.ensures.cases c.in_ok-opening.was c.first_line.ensures in
+    (table_opens _ _ _ _ opens).1
 
-pub returns-in_default-checked : goal.returns-in_default-checked
-returns-in_default-checked c =
-    let body = (table_opens _ _ _ _ (sym c.first_line-first.ensures ∙ c.in-Table.is)).0 in
-    let all = judged_within _ c.if-text-gt-TABLE_TEXT_ROOM.false ∙ body in
-    let told = c.in_default-checked.is in
-    refuses _ _ _ _ _ told (all ∙ answer_refuses _ _ _ (sym c.body-checked.ensures.0 ∙ told))
+pub returns-in_err-counts : goal.returns-in_err-counts
+unfolding checked_told
+returns-in_err-counts c =
+    let opens = table_told _ _ _ c.map_err.ensures.cases c.in_ok-opening.was c.first_line.ensures in
+    let all = judged_within _ c.if-text-gt-TABLE_TEXT_ROOM.false ∙ (table_opens _ _ _ _ opens).0 in
+    let told = sym c.body.ensures.0 ∙ ap checked_told c.in_err-counts.was in
+    let is = err_from_is_err_and c.from_residual-in_err-counts.result c.from_residual-in_err-counts.ensures.1 in
+    rw (is.1, is.2) (refuses _ _ _ _ _ refl (all ∙ answer_refuses _ _ _ told))
 
 pub walk-requires : goal.walk-requires
+unfolding checked_told
 walk-requires c =
-    let judged = c.body-checked.ensures in
-    let table = answer_accepts _ _ (sym judged.0 ∙ c.in-Accepted.is) in
+    let judged = c.body.ensures in
+    let table = answer_accepts _ _ (sym judged.0 ∙ ap checked_told c.in_ok-counts.was) in
     (rw table.2 (judged.1 table.0 table.1).terms_fit, refl)
 
 pub returns : goal.returns
+unfolding checked_told
 returns c =
-    let body = (table_opens _ _ _ _ (sym c.first_line-first.ensures ∙ c.in-Table.is)).0 in
-    let all = judged_within _ c.if-text-gt-TABLE_TEXT_ROOM.false ∙ body in
-    let judged = c.body-checked.ensures in
-    let table = answer_accepts _ _ (sym judged.0 ∙ c.in-Accepted.is) in
-    let told = sym c.in-Accepted.is ∙ judged.0 ∙ ap answer (sym all) in
+    let opens = table_told _ _ _ c.map_err.ensures.cases c.in_ok-opening.was c.first_line.ensures in
+    let all = judged_within _ c.if-text-gt-TABLE_TEXT_ROOM.false ∙ (table_opens _ _ _ _ opens).0 in
+    let judged = c.body.ensures in
+    let told = sym (ap checked_told c.in_ok-counts.was) ∙ judged.0 in
+    let table = answer_accepts _ _ (sym told) in
     let filled = judged.1 table.0 table.1 in
-    accepts _ table.0 _ _ _ _ _ _ _ (all ∙ table.1) told filled _ table.2 c.walk.ensures
+    accepts _ table.0 _ _ _ _ _ _ _ (all ∙ table.1) (told ∙ ap answer (sym all)) filled _ table.2 c.walk.ensures

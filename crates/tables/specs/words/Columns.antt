@@ -5,8 +5,7 @@ use Rattle.frames.specs.TableFrame.{term_room, definition_room}
 use Rattle.lines.specs.Judging.{Judged, accepted, refused}
 use Rattle.tables.specs.Table.{Item, Sofar, judged}
 use Rattle.tables.specs.declared.TableCounts.{TableCounts}
-use Rattle.tables.specs.declared.Checked.{Checked}
-use Rattle.tables.specs.declared.Checked.TheVariants.{Accepted, Refused}
+use Rattle.tables.specs.Checked.{Checked, Accepted, Refused}
 use Rattle.filling.specs.words.Preorder.{walked}
 use Rattle.columns.specs.words.Columns.{Columns, all_columns}
 

@@ -7,7 +7,7 @@ use Rattle.frames.specs.TableFrame.{term_room, definition_room}
 use Rattle.lines.specs.Judging.{Judged, accepted}
 use Rattle.tables.specs.Table.{Item, Sofar}
 use Rattle.tables.specs.words.Columns.{answer}
-use Rattle.tables.specs.declared.Checked.{Checked}
+use Rattle.tables.specs.Checked.{Checked}
 
 -- what is said once line 1 has opened a table
 abbrev pub begins : ℕ → ℕ → Sofar

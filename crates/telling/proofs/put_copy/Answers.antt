@@ -1,26 +1,10 @@
-use native.Mathlib.Omega.{arith}
-use Rattle.spelling.proofs.Putting.{owed_length}
-use Rattle.telling.proofs.Laws.{copy_owed, copy_less, copy_done}
+-- `telling::put_copy` meets its contract: the characters are put as far as the slice goes. Assumes nothing.
+use Rattle.telling.proofs.Laws.{copy_put, none_put}
 use Rattle.telling.proofs.put_copy.Goals as goal
 
-pub loop-at-init : goal.loop-at-init
-loop-at-init c =
-    let a = c.args in
-    (omega arith, copy_owed a.characters.now a.count)
+pub returns-then-from-room : goal.returns-then-from-room
+returns-then-from-room c =
+    copy_put _ _ _ c.requires.0 _ c.if-from-room.true c.min-room.ensures c.copy_from_slice.ensures.after
 
-pub bounds-out-at : goal.bounds-out-at
-bounds-out-at c = omega (arith, owed_length c.loop-at.invariant.1)
-
-pub loop-at-preserved : goal.loop-at-preserved
-loop-at-preserved c =
-    let a = c.args in
-    let less = copy_less a.characters.now a.count (omega arith) (omega arith) (omega arith) c.loop-at.invariant.1 in
-    (omega arith, less)
-
-pub shape_of-out : goal.shape_of-out
-shape_of-out c = owed_length c.loop-at.invariant.1
-
-pub returns : goal.returns
-returns c =
-    let a = c.args in
-    copy_done a.characters.now a.count (omega arith) (omega arith) c.loop-at.invariant.1
+pub returns-else-from-room : goal.returns-else-from-room
+returns-else-from-room c = none_put _ _ _ c.requires.0 (rw c.min-room.ensures at c.if-from-room.false)

@@ -1,5 +1,5 @@
 -- `telling::put_last` meets its contract: a byte and LF. Assumes nothing.
-use native.Mathlib.Omega.{arith}
+use Rattle.std.proofs.Common.{arith}
 use Rattle.lines.specs.Line.{hex}
 use Rattle.spelling.proofs.Spelt.{last_spelt}
 use Rattle.telling.proofs.put_last.Goals as goal

@@ -1,5 +1,5 @@
 -- `telling::put_refusal` meets its contract: two bytes, a number and LF. Assumes nothing.
-use native.Mathlib.Omega.{arith}
+use Rattle.std.proofs.Common.{arith}
 use Rattle.lines.specs.Line.{hex, two}
 use Rattle.telling.proofs.Laws.{refusal_spelt}
 use Rattle.telling.proofs.put_refusal.Goals as goal

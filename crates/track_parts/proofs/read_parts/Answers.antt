@@ -1,6 +1,9 @@
 -- `track_parts::read_parts` meets its contract: a block that is not filled is told, and else the track is the door's, with all
 -- room to work in cleared.
 -- Assumes nothing.
+use Rattle.std.proofs.Common.{ap, ◌∙◌}
+use Rattle.reading.specs.Answers.{read_told}
+use Rattle.answers.proofs.Judged.{track_judged, track_line_of}
 use Rattle.track_parts.proofs.Laws.{read_untouched, read_refused, read_accepted, reading_untouched, reading_cleared, all_reading_cleared}
 use Rattle.track_parts.proofs.read_parts.Goals as goal
 
@@ -8,22 +11,24 @@ pub returns-then-head-ne-TABLE_STAMP : goal.returns-then-head-ne-TABLE_STAMP
 returns-then-head-ne-TABLE_STAMP c = record { graph_after = read_untouched _ _ _ _ _ _ _ _ _ _ c.if-head-ne-TABLE_STAMP.true; walked_after = reading_untouched _ _ c.if-head-ne-TABLE_STAMP.true }
 
 pub returns-in_default : goal.returns-in_default
+unfolding read_told
 returns-in_default c =
     let stamped = c.if-head-ne-TABLE_STAMP.false in
     record {
-      graph_after = read_refused _ _ _ _ _ _ _ _ _ _ stamped _ _ _ c.read_track-read.ensures.graph_after _ c.line_of_read.ensures _ c.of_read.ensures _ _
-          c.in_default.is;
+      graph_after = read_refused _ _ _ _ _ _ _ _ _ _ stamped _ _ _ c.read_track-read.ensures.graph_after _ (c.line_of.ensures ∙ track_line_of _) _
+          (c.of_judged.ensures ∙ track_judged _) _ _ (ap read_told c.in_default.is);
       walked_after = reading_cleared _ _ stamped _ (all_reading_cleared _ _ _ _ _ _
           c.read_track-read.ensures.marks_after c.read_track-read.ensures.track_after c.read_track-read.ensures.sides_after c.read_track-read.ensures.pending_after c.read_track-read.ensures.numbers_after
           c.read_track-read.ensures.walked_after);
     }
 
 pub returns : goal.returns
+unfolding read_told
 returns c =
     let stamped = c.if-head-ne-TABLE_STAMP.false in
     record {
-      graph_after = read_accepted _ _ _ _ _ _ _ _ _ _ stamped _ _ _ c.read_track-read.ensures.graph_after _ c.line_of_read.ensures _
-          c.in-Accepted.is;
+      graph_after = read_accepted _ _ _ _ _ _ _ _ _ _ stamped _ _ _ c.read_track-read.ensures.graph_after _ (c.line_of.ensures ∙ track_line_of _) _
+          (ap read_told c.in-Ok.is);
       walked_after = reading_cleared _ _ stamped _ (all_reading_cleared _ _ _ _ _ _
           c.read_track-read.ensures.marks_after c.read_track-read.ensures.track_after c.read_track-read.ensures.sides_after c.read_track-read.ensures.pending_after c.read_track-read.ensures.numbers_after
           c.read_track-read.ensures.walked_after);

@@ -11,8 +11,8 @@ use Rattle.saving.specs.code.Saving.{text_of}
 use Rattle.graphs.specs.Saved.{graph_text}
 use Rattle.framing.specs.words.Told.{graph_told}
 use Rattle.reading.specs.code.Outcome as Reading
-use Rattle.reading.specs.declared.Read.{Read}
-use Rattle.reading.specs.declared.Read.TheVariants as Track
+use Rattle.reading.specs.Answers.{Read}
+use Rattle.reading.specs.Answers as Track
 use Rattle.answers.specs.Numbers as told
 use Rattle.answers.specs.words.Blocks.{table_stamp, track_stamp, no_table, no_track, head_word, unready, unless}
 

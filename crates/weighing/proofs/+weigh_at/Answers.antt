@@ -2,7 +2,7 @@ use Rattle.control.proofs.Sums.{one_more}
 use Rattle.looking.proofs.LookLaws.{side_few}
 use Rattle.weighing.proofs.WeighLaws.{at_spent, at_fresh, at_rest}
 use Rattle.weighing.proofs.WeighLaws.{at_an_end, at_the_end, at_astray, at_one, at_both}
-use native.Mathlib.Omega.{arith}
+use Rattle.std.proofs.Common.{arith}
 use Rattle.weighing.proofs.+weigh_at.Goals as goal
 
 pub returns-then-left-eq0 : goal.returns-then-left-eq0

@@ -10,8 +10,8 @@ use Rattle.control.specs.words.Sums.{capped}
 use Rattle.weights.specs.code.Rules.{by_leaf, entering, end_of, one, both}
 use Rattle.looking.specs.code.Looking.{digit_at, is_split, is_side, taken, is_within, set_of, inside}
 use Rattle.weighing.specs.code.Ending.{weigh_end}
-use Rattle.weights.specs.declared.Weighed.{Weighed}
-use Rattle.weights.specs.declared.Weighed.TheVariants.{Nothing}
+use Rattle.weights.specs.code.Rules.{Weighed}
+use Rattle.std.specs.Prelude.{None}
 
 -- how many levels of a term are gone down to, at most
 abbrev pub levels : ℕ
@@ -22,13 +22,13 @@ module _ (p x : List ℕ) (count : ℕ) (ds : List ℕ) where
   -- the left's digits end
   unfoldable pub by_digit : ℕ → ℕ → Weighed → (ℕ → Weighed) → ℕ → ℕ → ℕ → Bool → Weighed
   by_digit d t found across size own other within =
-      choose (not (is_side d)) Nothing
+      choose (not (is_side d)) None
       (choose (not (eqb d 3)) (one (kind p t) (set_of x t) found size own other within)
       (both (kind p t) (set_of x t) found (across (end_of found count)) size own other))
 
   -- a term that no step has touched
   unfoldable pub of_term : ℕ → ℕ → Bool → ℕ → ℕ → Weighed
-  of_term zero t nested at size = Nothing
+  of_term zero t nested at size = None
   of_term (suc left) t nested at size =
       choose (eqb (kind p t) Kind.sequence) (of_term left (capped (t + 1)) nested at (capped (size + 1)))
       (choose (not (is_split (kind p t)))
@@ -41,11 +41,11 @@ module _ (p x : List ℕ) (count : ℕ) (ds : List ℕ) where
   module _ (w g : List ℕ) (arcs : ℕ) where
     -- what stands at reference n; where n is 0, term t, a side that has not stepped yet
     unfoldable pub at_reference : ℕ → ℕ → ℕ → ℕ → ℕ → ℕ → Weighed
-    at_reference zero n t bound at size = Nothing
+    at_reference zero n t bound at size = None
     at_reference (suc left) n t bound at size =
         choose (eqb n 0) (entering (of_term levels t false at 1) 0)
         (choose (eqb (state w n) resting) (of_term levels (term w n) (not (eqb (frame w n) bound)) at size)
-        (choose (not (eqb (state w n) entered)) Nothing
+        (choose (not (eqb (state w n) entered)) None
         (choose (eqb (digit_at ds count at) 4)
         (weigh_end w g arcs n (kind p (term w n)) at size
         (is_within (not (eqb (frame w n) bound)) (around p (term w n))))

@@ -1,26 +1,20 @@
--- `weights::agree` meets its contract, by the kind and both events. Assumes nothing.
-use mathlib.Core.Path.{◌∙◌}
-use Rattle.weights.proofs.RuleLaws.{choice_parts, parts_silent, parts_across, parts_apart, agree_on}
+-- `weights::agree` meets its contract, by both events. Assumes nothing.
+use Rattle.std.proofs.Common.{◌∙◌, ne_eqb}
+use Rattle.weights.proofs.RuleLaws.{parts_silent, parts_across, parts_apart, agree_on}
 use Rattle.weights.proofs.agree.Goals as goal
-
-pub returns-then-kind-ne-PARALLEL_WORD : goal.returns-then-kind-ne-PARALLEL_WORD
-returns-then-kind-ne-PARALLEL_WORD c = choice_parts _ c.if-kind-ne-PARALLEL_WORD.true _ _ _
-
-pub returns-in_default : goal.returns-in_default
-returns-in_default c = parts_silent _ _ _ _ c.in_default.not-Visible
-
-pub returns-in_default-right : goal.returns-in_default-right
-returns-in_default-right c = parts_across _ _ _ _ _ c.in-Visible.is c.in_default-right.not-Visible
 
 pub returns-then-a-b : goal.returns-then-a-b
 returns-then-a-b c =
-    parts_apart _ c.if-kind-ne-PARALLEL_WORD.false _ _ _ _ _
-    c.in-Visible.is c.in-Visible-right.is
-    c.if-a-b.true
+    let both = c.in-Visible-Visible in
+    c.is_barred.ensures ∙ agree_on _ _ _ _ _ _ both.is-0 both.is-1 c.if-a-b.true
 
-pub returns : goal.returns
-returns c =
-    c.has.ensures ∙ agree_on _
-    c.if-kind-ne-PARALLEL_WORD.false _ _ _ _ _
-    c.in-Visible.is
-    c.in-Visible-right.is c.if-a-b.false
+pub returns-else-a-b : goal.returns-else-a-b
+returns-else-a-b c =
+    let both = c.in-Visible-Visible in
+    ne_eqb _ _ c.if-a-b.false ∙ parts_apart _ _ _ _ _ _ both.is-0 both.is-1 c.if-a-b.false
+
+pub returns-in_default : goal.returns-in_default
+returns-in_default c = parts_across _ _ _ _ _ c.in_default.is-0 c.in_default.not-Visible-1
+
+pub returns-in_default-2 : goal.returns-in_default-2
+returns-in_default-2 c = parts_silent _ _ _ _ c.in_default.not-Visible-0

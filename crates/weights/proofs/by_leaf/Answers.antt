@@ -1,7 +1,8 @@
 -- `weights::by_leaf` meets its contract, by what a leaf weighs at each kind. Assumes nothing.
-use mathlib.Core.Path.{◌∙◌}
-use Rattle.weights.proofs.RuleLaws.{prefix_leaf, SKIP_leaf, call_leaf, STOP_leaf, no_leaf, no_digit}
-use Rattle.weights.proofs.RuleLaws.{no_side, chosen_leaf}
+use Rattle.std.proofs.Common.{◌∙◌, inl, inr, arith}
+use Rattle.weights.proofs.RuleLaws.{prefix_leaf, SKIP_leaf, call_leaf, STOP_leaf, no_leaf, no_choice, chosen_leaf}
+use Rattle.weights.proofs.by_leaf.Goals.{else-kind-eq-INTERNAL_WORD-via-then-kind-eq-INTERNAL_WORD+else-digit-eq2}
+use Rattle.weights.proofs.by_leaf.Goals.{else-kind-eq-INTERNAL_WORD-via-else-kind-eq-INTERNAL_WORD}
 use Rattle.weights.proofs.by_leaf.Goals as goal
 
 pub returns-then-kind-eq-PREFIX_WORD : goal.returns-then-kind-eq-PREFIX_WORD
@@ -12,26 +13,30 @@ returns-then-kind-eq-SKIP_WORD c =
     SKIP_leaf _ _ _ _ _ _ c.if-kind-eq-SKIP_WORD.true _ _ c.step-then-kind-eq-SKIP_WORD.ensures
     c.settled.ensures
 
-pub returns-then-kind-eq-CALL_WORD : goal.returns-then-kind-eq-CALL_WORD
-returns-then-kind-eq-CALL_WORD c = c.step-then-kind-eq-CALL_WORD.ensures ∙ call_leaf _ _ _ _ _ _ c.if-kind-eq-CALL_WORD.true
-
 pub returns-then-kind-eq-STOP_WORD : goal.returns-then-kind-eq-STOP_WORD
-returns-then-kind-eq-STOP_WORD c = c.step-then-kind-eq-STOP_WORD.ensures ∙ STOP_leaf _ _ _ _ _ _ c.if-kind-eq-STOP_WORD.true
+returns-then-kind-eq-STOP_WORD c = c.step-then-kind-eq-STOP_WORD.ensures ∙ elim c.if-kind-eq-STOP_WORD.either [
+  | inl h ↦ call_leaf _ _ _ _ _ _ h
+  | inr h ↦ STOP_leaf _ _ _ _ _ _ h.1
+]
 
-pub returns-then-kind-ne-INTERNAL_WORD : goal.returns-then-kind-ne-INTERNAL_WORD
-returns-then-kind-ne-INTERNAL_WORD c =
-    no_leaf _ _ _ _ _ _ c.if-kind-eq-PREFIX_WORD.false
-    c.if-kind-eq-SKIP_WORD.false c.if-kind-eq-CALL_WORD.false c.if-kind-eq-STOP_WORD.false
-    c.if-kind-ne-INTERNAL_WORD.true
+pub returns-then-digit-eq2 : goal.returns-then-digit-eq2
+returns-then-digit-eq2 c = elim c.if-digit-eq2.either [
+  | inl h ↦
+      chosen_leaf _ _ _ _ _ _ c.if-kind-eq-INTERNAL_WORD.true (λ z. omega arith) (omega arith) _ _
+      c.sum.ensures c.step-then-digit-eq2.ensures
+  | inr h ↦
+      let two = h.1 in
+      chosen_leaf _ _ _ _ _ _ c.if-kind-eq-INTERNAL_WORD.true (λ z. omega arith) (omega arith) _ _
+      c.sum.ensures c.step-then-digit-eq2.ensures
+]
 
-pub returns-then-digit-eq0 : goal.returns-then-digit-eq0
-returns-then-digit-eq0 c = no_digit _ _ _ _ _ _ c.if-kind-ne-INTERNAL_WORD.false c.if-digit-eq0.true
-
-pub returns-then-digit-gt2 : goal.returns-then-digit-gt2
-returns-then-digit-gt2 c = no_side _ _ _ _ _ _ c.if-kind-ne-INTERNAL_WORD.false c.if-digit-gt2.true
-
-pub returns : goal.returns
-returns c =
-    chosen_leaf _ _ _ _ _ _ c.if-kind-ne-INTERNAL_WORD.false
-    c.if-digit-eq0.false c.if-digit-gt2.false _ _ c.sum.ensures
-    c.step-2.ensures
+pub returns-else-kind-eq-INTERNAL_WORD : goal.returns-else-kind-eq-INTERNAL_WORD
+returns-else-kind-eq-INTERNAL_WORD c = elim c.else-kind-eq-INTERNAL_WORD.branch [
+  | else-kind-eq-INTERNAL_WORD-via-then-kind-eq-INTERNAL_WORD+else-digit-eq2 w ↦
+      let other = w.if-digit-eq2.false in
+      no_choice _ _ _ _ _ _ w.if-kind-eq-INTERNAL_WORD.true other.0 other.1
+  | else-kind-eq-INTERNAL_WORD-via-else-kind-eq-INTERNAL_WORD w ↦
+      let other = c.if-kind-eq-STOP_WORD.false in
+      no_leaf _ _ _ _ _ _ c.if-kind-eq-PREFIX_WORD.false c.if-kind-eq-SKIP_WORD.false
+      other.0 other.1 w.if-kind-eq-INTERNAL_WORD.false
+]

@@ -1,18 +1,14 @@
--- `weights::is_barred` meets its contract, by the kind and the event. Assumes nothing.
-use mathlib.Core.Path.{◌∙◌}
-use Rattle.weights.proofs.RuleLaws.{free_choice, free_tau, free_tick, barred_visible}
+-- `weights::is_barred` meets its contract, by the event and the kind. Assumes nothing.
+use Rattle.std.proofs.Common.{◌∙◌, ne_eqb}
+use Rattle.weights.proofs.RuleLaws.{free_choice, free_silent, barred_visible}
 use Rattle.weights.proofs.is_barred.Goals as goal
 
-pub returns-then-kind-ne-PARALLEL_WORD : goal.returns-then-kind-ne-PARALLEL_WORD
-returns-then-kind-ne-PARALLEL_WORD c = free_choice _ c.if-kind-ne-PARALLEL_WORD.true _ _
+pub returns-in_default : goal.returns-in_default
+returns-in_default c = free_silent _ _ _ c.in_default.not-Visible
 
-pub returns-in-Tau : goal.returns-in-Tau
-returns-in-Tau c = free_tau _ _ _ c.in-Tau.is
+pub returns-then-kind-eq-PARALLEL_WORD : goal.returns-then-kind-eq-PARALLEL_WORD
+returns-then-kind-eq-PARALLEL_WORD c = c.has.ensures ∙ barred_visible _ c.if-kind-eq-PARALLEL_WORD.true _ _ _ c.in-Visible.is
 
-pub returns-in-Tick : goal.returns-in-Tick
-returns-in-Tick c = free_tick _ _ _ c.in-Tick.is
-
-pub returns-in-Visible : goal.returns-in-Visible
-returns-in-Visible c =
-    c.has.ensures ∙ barred_visible _ c.if-kind-ne-PARALLEL_WORD.false _ _ _
-    c.in-Visible.is
+pub returns-else-kind-eq-PARALLEL_WORD : goal.returns-else-kind-eq-PARALLEL_WORD
+returns-else-kind-eq-PARALLEL_WORD c =
+    ne_eqb _ _ c.if-kind-eq-PARALLEL_WORD.false ∙ free_choice _ c.if-kind-eq-PARALLEL_WORD.false _ _

@@ -1,5 +1,5 @@
 -- `weights::step` meets its contract, which says what it makes. Assumes nothing.
-use mathlib.Core.Path.{refl}
+use Rattle.std.proofs.Common.{refl}
 use Rattle.weights.specs.code.Rules.{step}
 use Rattle.weights.proofs.step.Goals as goal
 

@@ -1,5 +1,5 @@
 -- What each rule makes of the weights of its premises. Counts stop at 65,535.
-use Rattle.std.specs.Prelude.{ℕ, ◌+◌, ◌*◌, ◌-◌, ◌%◌, Bool, true, false, ◌&&◌, eqb, leb}
+use Rattle.std.specs.Prelude.{ℕ, ◌+◌, ◌*◌, ◌-◌, ◌%◌, Bool, true, false, ◌&&◌, eqb, leb, Option, Some, None}
 use Rattle.lines.specs.Line.{choose}
 use Rattle.kinds.specs.Kind as Kind
 use Rattle.sets.specs.EventSet.{member}
@@ -7,12 +7,14 @@ use Rattle.rules.specs.declared.Event.{Event}
 use Rattle.rules.specs.declared.Event.TheVariants.{Tau, Tick, Visible}
 use Rattle.control.specs.words.Sums.{capped}
 use Rattle.weights.specs.declared.Weight.{Weight}
-use Rattle.weights.specs.declared.Weighed.{Weighed}
-use Rattle.weights.specs.declared.Weighed.TheVariants.{Derived, Nothing}
+
+-- a derivation's weight, where there is one
+abbrev pub Weighed : Type 0
+Weighed = Option Weight
 
 -- a step that labels and draws as often as it says
 unfoldable pub step : Event → ℕ → ℕ → ℕ → ℕ → Weighed
-step e at size count met = Derived (record {
+step e at size count met = Some (record {
   event = e;
   at = at;
   size = size;
@@ -24,9 +26,9 @@ step e at size count met = Derived (record {
 
 -- a ✓ starts a sequence's right, and shows as τ
 unfoldable pub started : Event → Weight → Weighed
-started Tau w = Derived w
-started (Visible e) w = Derived w
-started Tick w = Derived (record {
+started Tau w = Some w
+started (Visible e) w = Some w
+started Tick w = Some (record {
   event = Tau;
   at = w.at;
   size = w.size - 1;
@@ -38,8 +40,8 @@ started Tick w = Derived (record {
 
 -- where a sequence is around
 unfoldable pub settled : Weighed → Bool → Weighed
-settled Nothing within = Nothing
-settled (Derived w) within = choose within (started w.event w) (Derived w)
+settled None within = None
+settled (Some w) within = choose within (started w.event w) (Some w)
 
 -- call, prefix, internal choice, SKIP and STOP
 unfoldable pub by_leaf : ℕ → ℕ → ℕ → Bool → ℕ → ℕ → Weighed
@@ -48,12 +50,12 @@ by_leaf k operand d within at size =
     (choose (eqb k Kind.SKIP) (settled (step Tick at size 1 0) within)
     (choose (eqb k Kind.call) (step Tau at size 1 0)
     (choose (eqb k Kind.STOP) (step Tau at size 1 0)
-    (choose (eqb k Kind.internal && (leb 1 d && leb d 2)) (step Tau (capped (at + 1)) size 1 0) Nothing))))
+    (choose (eqb k Kind.internal && (leb 1 d && leb d 2)) (step Tau (capped (at + 1)) size 1 0) None))))
 
 -- a side that is entered: so many labels, and an arc
 unfoldable pub entering : Weighed → ℕ → Weighed
-entering Nothing n = Nothing
-entering (Derived w) n = Derived (record {
+entering None n = None
+entering (Some w) n = Some (record {
   event = w.event;
   at = w.at;
   size = w.size;
@@ -65,8 +67,8 @@ entering (Derived w) n = Derived (record {
 
 -- where the digits of a derivation end; behind all of them where there is none
 unfoldable pub end_of : Weighed → ℕ → ℕ
-end_of (Derived w) count = w.at
-end_of Nothing count = count
+end_of (Some w) count = w.at
+end_of None count = count
 
 -- a parallel lets no event of its set through that only one side does
 unfoldable pub barred : ℕ → ℕ → Event → Bool
@@ -99,11 +101,11 @@ resized e size w = record {
 
 -- a split's rules for one side's step
 unfoldable pub one : ℕ → ℕ → Weighed → ℕ → ℕ → ℕ → Bool → Weighed
-one k x Nothing size own other within = Nothing
-one k x (Derived w) size own other within =
-    choose (barred k x w.event) Nothing
-    (choose (stays k w.event) (Derived (resized (shown k w.event) (capped (size - own + w.size)) w))
-    (settled (Derived (resized w.event (capped (size - own - other - 1 + w.size)) w)) within))
+one k x None size own other within = None
+one k x (Some w) size own other within =
+    choose (barred k x w.event) None
+    (choose (stays k w.event) (Some (resized (shown k w.event) (capped (size - own + w.size)) w))
+    (settled (Some (resized w.event (capped (size - own - other - 1 + w.size)) w)) within))
 
 -- both sides do the same event of the set
 unfoldable pub agree : ℕ → ℕ → Event → Event → Bool
@@ -115,11 +117,11 @@ agree k x (Visible a) (Visible b) = eqb k Kind.parallel && (eqb a b && member a 
 
 -- a parallel's rule for a joint step
 unfoldable pub both : ℕ → ℕ → Weighed → Weighed → ℕ → ℕ → ℕ → Weighed
-both k x Nothing r size own other = Nothing
-both k x (Derived l) Nothing size own other = Nothing
-both k x (Derived l) (Derived r) size own other =
+both k x None r size own other = None
+both k x (Some l) None size own other = None
+both k x (Some l) (Some r) size own other =
     choose (agree k x l.event r.event)
-    (Derived (record {
+    (Some (record {
       event = l.event;
       at = r.at;
       size = capped (capped (size - own - other + l.size) + r.size);
@@ -128,12 +130,12 @@ both k x (Derived l) (Derived r) size own other =
       meetings = capped (capped (l.meetings + r.meetings) + capped (l.met * r.met));
       met = capped (l.met + r.met);
     }))
-    Nothing
+    None
 
 -- a parallel's rule for two sides that have ended
 unfoldable pub ended : ℕ → ℕ → ℕ → Bool → Weighed
 ended at size parents within = settled
-    (Derived (record {
+    (Some (record {
       event = Tick;
       at = capped (at + 1);
       size = size - 2;

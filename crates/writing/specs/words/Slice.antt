@@ -2,8 +2,7 @@
 use Rattle.std.specs.Prelude.{ℕ, List, length, leb}
 use Rattle.std.proofs.lemmas.List.Edits.{sets}
 use Rattle.lines.specs.Line.{choose}
-use Rattle.writing.specs.declared.Saved.{Saved}
-use Rattle.writing.specs.declared.Saved.TheVariants.{Written, Short}
+use Rattle.writing.specs.Answers.{Saved, Written, Short}
 
 -- an answer, with the slice after it
 pub record Put : Type 0 where

@@ -1,12 +1,7 @@
--- `marks::path::event_end` meets its contract, by whether the path ends. Assumes nothing.
-use native.Mathlib.Omega.{arith}
+-- `marks::path::event_end` meets its contract: a mark fits a word. Assumes nothing.
+use Rattle.std.proofs.Common.{arith}
 use Rattle.marks.proofs.Laws.{event_small}
 use Rattle.marks.proofs.path.event_end.Goals as goal
 
-pub returns-then-not-ends : goal.returns-then-not-ends
-returns-then-not-ends c = rw c.if-not-ends.true
-
-pub returns : goal.returns
-returns c =
-    rw c.if-not-ends.false
-    (omega (arith, c.event_mark.ensures, event_small c.args.term))
+pub overflow_cast-result : goal.overflow_cast-result
+overflow_cast-result c = omega (arith, c.event_mark.ensures, event_small c.args.term)

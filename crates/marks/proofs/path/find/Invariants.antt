@@ -1,14 +1,9 @@
 -- `marks::path::find` meets its contract. The loop's invariant: what is found from the term that was reached on, by the
--- digits that are left, is what is found from the root. The measure is how many bytes are left. Assumes nothing.
-use Prim.Native.Nat.{◌-◌}
-use mathlib.Core.Path.{◌≡◌}
-use lib.ListN.{drop}
+-- digits that are left, is what is found from the root. Assumes nothing.
+use Rattle.std.proofs.Common.{◌≡◌, drop}
 use Rattle.numbers.specs.code.Numbers.{read_bytes}
 use Rattle.marks.specs.code.Followed as of
 use Rattle.marks.proofs.path.find.Given as goal
 
 abbrev pub invariant-loop-i : goal.invariant-loop-i
 invariant-loop-i l = of.find l.kinds l.after l.root (drop l.from (read_bytes l.chars)) ≡ of.find l.kinds l.after l.term (drop l.i (read_bytes l.chars))
-
-abbrev pub decreases-loop-i : goal.decreases-loop-i
-decreases-loop-i l = l.count - l.i

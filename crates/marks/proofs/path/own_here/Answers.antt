@@ -1,9 +1,7 @@
--- `marks::path::own_here` meets its contract, by whether there is such a term. Assumes nothing.
-use Rattle.marks.proofs.Followed.{own_none, own_found}
+-- `marks::path::own_here` meets its contract: a mark fits a word. Assumes nothing.
+use Rattle.std.proofs.Common.{arith}
+use Rattle.marks.proofs.Laws.{own_small}
 use Rattle.marks.proofs.path.own_here.Goals as goal
 
-pub returns-then-term-ge-TERM_ROOM : goal.returns-then-term-ge-TERM_ROOM
-returns-then-term-ge-TERM_ROOM c = own_none _ c.if-term-ge-TERM_ROOM.true
-
-pub returns : goal.returns
-returns c = own_found _ c.if-term-ge-TERM_ROOM.false c.own_mark.ensures
+pub overflow_cast-result : goal.overflow_cast-result
+overflow_cast-result c = omega (arith, c.own_mark.ensures, own_small c.args.term)

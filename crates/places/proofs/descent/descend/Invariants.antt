@@ -1,7 +1,7 @@
 -- `places::descent::descend` meets its contract. The loop's invariant: halfway, the digits so far stand in a copy of the
 -- lent array, which is untouched, and the rest of the way is the one from here on. The measure is how many digits may
 -- still come. Assumes nothing.
-use Prim.Native.Nat.{◌-◌}
+use Rattle.std.proofs.Common.{◌-◌}
 use Rattle.places.proofs.Ways.{Halfway}
 use Rattle.places.proofs.descent.descend.Given as goal
 

@@ -15,5 +15,5 @@ pub returns : goal.returns
 returns c =
     let room = c.requires in
     laid_two _ _ _ _ _ _ _ c.put_own.ensures c.subterms-count.ensures _ _ room
-    c.inward-inside.ensures c.put.ensures _ _ c.through-passed.ensures c.put-2.ensures
+    c.inward-inside.ensures c.put.ensures _ _ c.through-passed.ensures (rw c.from.ensures at c.put-2.ensures)
     c.if-count-eq0.false c.if-count-eq1.false

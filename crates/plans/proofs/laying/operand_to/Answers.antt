@@ -1,13 +1,16 @@
 -- `plans::laying::operand_to` meets its contract, by the kind. Assumes nothing.
-use mathlib.Core.Path.{◌∙◌}
-use Rattle.plans.proofs.Laid.{operand_prefix, operand_call, operand_none}
+use Rattle.std.proofs.Common.{rules}
+use Rattle.plans.specs.code.Laid.{operand_of}
 use Rattle.plans.proofs.laying.operand_to.Goals as goal
 
-pub returns-then-kind-eq-PREFIX : goal.returns-then-kind-eq-PREFIX
-returns-then-kind-eq-PREFIX c = operand_prefix _ _ _ c.if-kind-eq-PREFIX.true
+pub returns-in-1 : goal.returns-in-1
+unfolding operand_of
+returns-in-1 c = search rules
 
-pub returns-then-kind-eq-CALL : goal.returns-then-kind-eq-CALL
-returns-then-kind-eq-CALL c = c.root_word.ensures ∙ operand_call _ _ _ c.if-kind-eq-CALL.true
+pub returns-in-2 : goal.returns-in-2
+unfolding operand_of
+returns-in-2 c = search rules
 
-pub returns : goal.returns
-returns c = operand_none _ _ _ c.if-kind-eq-PREFIX.false c.if-kind-eq-CALL.false
+pub returns-in_default : goal.returns-in_default
+unfolding operand_of
+returns-in_default c = search rules

@@ -3,4 +3,4 @@ use Rattle.plans.proofs.Laid.{own_put}
 use Rattle.plans.proofs.laying.put_own.Goals as goal
 
 pub returns : goal.returns
-returns c = own_put _ _ _ _ _ _ _ _ c.put.ensures c.put-2.ensures c.put-3.ensures
+returns c = own_put _ _ _ _ _ _ _ _ (rw c.from.ensures at c.put.ensures) c.put-2.ensures c.put-3.ensures

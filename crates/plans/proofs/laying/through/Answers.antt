@@ -1,12 +1,12 @@
 -- `plans::laying::through` meets its contract, by the kind. Assumes nothing.
-use Rattle.plans.proofs.Laid.{through_external, through_parallel, through_others}
+use Rattle.std.proofs.Common.{rules}
+use Rattle.plans.specs.code.Laid.{through}
 use Rattle.plans.proofs.laying.through.Goals as goal
 
-pub returns-then-kind-eq-EXTERNAL : goal.returns-then-kind-eq-EXTERNAL
-returns-then-kind-eq-EXTERNAL c = through_external _ _ c.if-kind-eq-EXTERNAL.true
+pub returns-in-6 : goal.returns-in-6
+unfolding through
+returns-in-6 c = search rules
 
-pub returns-then-kind-eq-PARALLEL : goal.returns-then-kind-eq-PARALLEL
-returns-then-kind-eq-PARALLEL c = through_parallel _ _ c.if-kind-eq-PARALLEL.true
-
-pub returns : goal.returns
-returns c = through_others _ _ c.if-kind-eq-EXTERNAL.false c.if-kind-eq-PARALLEL.false
+pub returns-in_default : goal.returns-in_default
+unfolding through
+returns-in_default c = search rules

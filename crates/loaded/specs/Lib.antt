@@ -1,0 +1,2 @@
+-- A table with its columns in one struct. Below: `words`, what the struct holds.
+pub mod words

@@ -1,0 +1,2 @@
+-- Layouts of words: `Held`, the columns that a table holds.
+pub mod Held

@@ -1,0 +1,15 @@
+-- What columns a table holds that is kept in one struct, and those of no term.
+use Rattle.std.specs.Prelude.{replicate}
+use Rattle.frames.specs.TableFrame.{term_room, definition_room}
+use Rattle.columns.specs.words.Columns.{Columns, all_columns}
+use Rattle.loaded.specs.declared.Table.{Table}
+
+-- its five columns
+abbrev pub held : Table → Columns
+held t = all_columns t.kinds t.payloads t.owners t.after t.roots
+
+-- zeros in all of them
+abbrev pub no_terms : Columns
+no_terms =
+    all_columns (replicate term_room 0) (replicate term_room 0) (replicate term_room 0)
+    (replicate term_room 0) (replicate definition_room 0)
