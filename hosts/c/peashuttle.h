@@ -27,14 +27,14 @@
 
    The stack that a call takes in the library at most, in bytes, its return address included, whatever it is lent:
 
-       peashuttle_list      2,143,808
-       peashuttle_play      1,639,728
-       peashuttle_step      1,639,600
-       peashuttle_offers      206,352
-       peashuttle_status      206,352
-       peashuttle_check        12,776
-       peashuttle_save            640
-       peashuttle_write           432
+       peashuttle_list      2,143,632
+       peashuttle_play      1,639,616
+       peashuttle_step      1,639,536
+       peashuttle_offers      205,296
+       peashuttle_status      205,296
+       peashuttle_check        12,744
+       peashuttle_save            448
+       peashuttle_write           352
        peashuttle_read            328
        peashuttle_start            24
 

@@ -33,6 +33,7 @@ ANSWERS = {  # what the header calls a number, and the definition's equation for
 DEFINED = ("DONE", "END", "NO_TABLE", "NO_RUN", "NO_TRACK", "TABLE_STAMP", "RUN_STAMP", "TRACK_STAMP")
 IN_C = {"u8": "uint8_t", "u16": "uint16_t", "u32": "uint32_t", "u64": "uint64_t", "usize": "size_t", None: "void"}
 WIDTHS = {"uint8_t": 1, "uint16_t": 2, "uint64_t": 8, "size_t": 8}
+IN_HEADER = {("Graph", "track"): "graph"}  # what a field of a struct is called in a block
 GIVEN = {"cursor": "at", "track": "found"}  # what the functions to call have another name for
 CONSTANT = r"^(?:pub )?const (\w+): \w+ = (\w+);"
 
@@ -198,14 +199,28 @@ def fields_in_rust():
     return fields_in(CRATE, r"^#\[repr\(C\)\]\npub struct (\w+)", field)
 
 
+@functools.cache
+def structs():
+    """The structs of the sources that are laid out as C does: pairs of a field and its type, by the struct's name."""
+    struct = re.compile(r"^#\[repr\(C\)\]\n(?:#[^\n]*\n)*pub struct (\w+) \{\n(.*?)^\}", re.MULTILINE | re.DOTALL)
+    found = struct.findall("\n".join(texts_of("*/src/**/*.rt")))
+    return {name: re.findall(r"^    pub (\w+): (\w+),", body, re.MULTILINE) for name, body in found}
+
+
+def laid_out(struct):
+    """The fields of a struct, and in the place of each that is a struct itself that one's: C lays out both alike."""
+    for name, kind in structs()[struct]:
+        if kind in structs():
+            yield from laid_out(kind)
+        else:
+            of, count = arrays().get(kind, (kind, None))
+            yield IN_HEADER.get((struct, name), name), IN_C[of], count
+
+
 def fields_in_sources():
-    found = {}
-    struct = re.compile(r"^#\[repr\(C\)\]\n(?:#[^\n]*\n)*pub struct (\w+)Block \{\n(.*?)^\}", re.MULTILINE | re.DOTALL)
-    for block, body in struct.findall("\n".join(texts_of("peashuttle*/src/**/*.rt"))):
-        fields = re.findall(r"^    pub (\w+): (\w+),", body, re.MULTILINE)
-        kinds = [(name, *arrays().get(kind, (kind, None))) for name, kind in fields]
-        found[block.lower()] = [(name, IN_C[of], count) for name, of, count in kinds]
-    return found
+    blocks = {name.removesuffix("Block").lower(): name for name in structs() if name.endswith("Block")}
+    blocks |= dict(re.findall(r"^pub type (\w+)Block = (\w+);", "\n".join(texts_of("peashuttle/src/**/*.rt")), re.MULTILINE))
+    return {block.lower(): list(laid_out(struct)) for block, struct in blocks.items()}
 
 
 def size_of(fields):
@@ -286,6 +301,13 @@ class Blocks(unittest.TestCase):
         self.assertEqual(sorted(fields_in_sources()), ["run", "table", "track", "work"])
         self.assertEqual(fields_in_c(), fields_in_sources())
         self.assertEqual(fields_in_rust(), fields_in_sources())
+
+    def test_a_struct_within_a_block_has_no_room_to_spare(self):
+        within = {kind for fields in structs().values() for _, kind in fields if kind in structs()}
+        self.assertEqual(within, {"Show", "Table", "Run", "Words", "Graph"})
+        for struct in within:
+            fields = list(laid_out(struct))
+            self.assertEqual(size_of(fields), sum(WIDTHS[of] * count for _, of, count in fields), struct)
 
     def test_sizes_that_the_page_tells(self):
         for block, fields in fields_in_sources().items():

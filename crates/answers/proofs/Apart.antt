@@ -1,8 +1,6 @@
 -- A number tells one answer: events among events, statuses among statuses, refusals among refusals, and no event is told as a
 -- refusal. By cases; a visible event and a refusal add their own number to a constant. Assumes nothing.
-use Prim.Native.Nat.{ℕ, ◌+◌, ◌<◌}
-use mathlib.Core.Path.{◌≡◌, refl, ap}
-use native.Mathlib.Omega.{arith}
+use Rattle.std.proofs.Common.{ℕ, ◌+◌, ◌<◌, ◌≡◌, refl, ap, arith}
 use Rattle.rules.specs.declared.Event.{Event}
 use Rattle.rules.specs.declared.Event.TheVariants.{Tau as τ, Tick as ✓, Visible as visible}
 use Rattle.rules.specs.declared.Status.{Status}

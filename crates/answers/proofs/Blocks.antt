@@ -1,8 +1,6 @@
 -- What is told of blocks, by their stamps: the number of the one that is not filled, with all as it was, or what was asked for.
 -- Assumes nothing.
-use Prim.Native.Nat.{ℕ, zero, suc}
-use mathlib.Core.Path.{◌≡◌, refl, sym, ◌∙◌, ap}
-use borrow.Author.Tests.{eq-eqb, ne_eqb}
+use Rattle.std.proofs.Common.{ℕ, zero, suc, ◌≡◌, refl, sym, ◌∙◌, ap, eq-eqb, ne_eqb}
 use Rattle.answers.specs.words.Blocks.{unready, unless, table_stamp, run_stamp, no_table, no_run}
 
 pub no_table_told : (table run : ℕ) → (table ≡ table_stamp → ⊥) → no_table ≡ unready table run

@@ -4,12 +4,11 @@
 ghost use Rattle.std.specs.Prelude.{◌≡◌};
 ghost use Rattle.frames.specs.TableFrame.{term_room, definition_room};
 ghost use Rattle.columns.specs.words.Columns.{look};
+ghost use Rattle.columns.specs.words.Held.{held, no_terms};
 
 use frames::{DEFINITION_ROOM, TERM_ROOM};
 
-// A column for each thing that is known of a term, by its number in preorder over the whole table: its kind, its payload, the
-// definition that it stands in, and the term behind it and its subterms; and one for the definitions' roots.
-// Arrays of a table's room: memory is fixed here, and no heap is asked for any.
+// The columns, which are arrays of a table's room: memory is fixed here, and no heap is asked for any.
 pub type Kinds = [u8; TERM_ROOM];
 
 pub type Payloads = [u64; TERM_ROOM];
@@ -19,6 +18,34 @@ pub type Owners = [u8; TERM_ROOM];
 pub type After = [u16; TERM_ROOM];
 
 pub type Roots = [u16; DEFINITION_ROOM];
+
+// A table: a column for each thing that is known of a term, by its number in preorder over the whole table, which are its kind,
+// its payload, the definition that it stands in, and the term behind it and its subterms; and one for the definitions' roots.
+// A host keeps it as C lays it out.
+#[repr(C)]
+#[derive(Drop)]
+pub struct Table {
+    pub kinds: Kinds,
+    pub payloads: Payloads,
+    pub owners: Owners,
+    pub after: After,
+    pub roots: Roots,
+}
+
+impl Table {
+    // Columns of no term, all 0.
+    pub fn new() -> Table
+        ensures { held result ≡ no_terms }
+    {
+        Table {
+            kinds: [0; TERM_ROOM],
+            payloads: [0; TERM_ROOM],
+            owners: [0; TERM_ROOM],
+            after: [0; TERM_ROOM],
+            roots: [0; DEFINITION_ROOM],
+        }
+    }
+}
 
 // The kind of a term.
 pub fn kind_of(n: usize, kinds: &Kinds) -> u8

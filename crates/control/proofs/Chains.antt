@@ -2,10 +2,10 @@
 -- frame: a call inside a sequence, and a choice inside one, put their own labelled reference before the frame.
 -- So a chain up to the frame of a choice's sides and the chain around the choice are one, and a side for which
 -- the choice is dropped keeps the sequences of both. Assumes nothing.
-use Rattle.std.proofs.Common.{ℕ, suc, ◌+◌, ◌≤◌, ◌<◌, ◌≡◌, refl, subst, ap, sym, ◌∙◌, Bool, true, false}
-use Rattle.std.proofs.Common.{List, [], ◌∷◌, ◌++◌, arith, length, eqb, eqb-true, eq-eqb, ne_eqb}
-use mathlib.Core.Option.{none, some}
-use borrow.Author.Tests.{eqb-false}
+use Rattle.std.proofs.Common.{ℕ, suc, ◌+◌, ◌≤◌, ◌<◌, ◌≡◌, refl, subst, ap, sym, ◌∙◌, Bool, true, false, List}
+use Rattle.std.proofs.Common.{[], ◌∷◌, ◌++◌, arith, length, eqb, eqb-true, eq-eqb, ne_eqb}
+use Rattle.std.proofs.lemmas.Bool.{eqb-false}
+use Rattle.std.proofs.Math.Option.{none, some}
 use Rattle.lines.specs.Line.{choose}
 use Rattle.places.specs.Place.{Place}
 use Rattle.rules.specs.Process.{Split, choice, Process, leaf, prefix, internal, split, sequence, Ω, ⊥', cells}

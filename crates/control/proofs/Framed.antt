@@ -3,7 +3,7 @@
 -- hold it too. By induction over the process. Assumes nothing.
 use Rattle.std.proofs.Common.{ℕ, ◌≤◌, ◌<◌, ◌≡◌, refl, subst, ap, sym, ◌∙◌, Bool, true, false, List, [], ◌∷◌}
 use Rattle.std.proofs.Common.{arith, eqb, eqb-true}
-use mathlib.Core.Option.{none, some}
+use Rattle.std.proofs.Math.Option.{none, some}
 use Rattle.lines.specs.Line.{choose}
 use Rattle.terms.specs.Term.{Term, external, parallel}
 use Rattle.terms.specs.Term as Term

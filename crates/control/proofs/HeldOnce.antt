@@ -4,7 +4,7 @@
 -- where they stand; sides have fewer cells than their split. Then the sequences around agree one by one. Assumes nothing.
 use Rattle.std.proofs.Common.{ℕ, zero, suc, ◌+◌, ◌≤◌, ◌<◌, ◌≡◌, refl, sym, ap, ap₂, subst, ◌∙◌, true, false}
 use Rattle.std.proofs.Common.{List, [], ◌∷◌, arith}
-use mathlib.Core.Option.{Option, none, some}
+use Rattle.std.proofs.Math.Option.{Option, none, some}
 use Rattle.terms.specs.Term.{Term}
 use Rattle.places.specs.Place.{Place}
 use Rattle.rules.specs.Process.{Split, choice, together, Process, leaf, prefix, internal, split, sequence, Ω, ⊥', cells}

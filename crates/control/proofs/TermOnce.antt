@@ -2,8 +2,8 @@
 -- and operator, the sets tell a parallel's, and a call's operand is the root of the definition whose place stands there. By
 -- induction over both terms. Assumes nothing.
 use Rattle.std.proofs.Common.{ℕ, suc, ◌≡◌, refl, sym, ap, subst, ◌∙◌, List, arith}
-use mathlib.Core.Option.{Option, none, some}
-use lib.ListN.{get_elem?}
+use Rattle.std.proofs.Math.Option.{Option, none, some}
+use Rattle.std.proofs.Math.ListN.{get_elem?}
 use Rattle.kinds.specs.Kind.{subterms}
 use Rattle.terms.specs.Term.{Leaf, call, SKIP, STOP, Operator, internal, external, sequence, parallel, Term}
 use Rattle.terms.specs.Term.{leaf, prefix, binary, leaf_kind, leaf_of, operator_kind, operator_payload, operator_of}

@@ -30,6 +30,37 @@ pub type Track = [u16; TRACK_WORDS];
 
 pub type Counters = [u16; 8];
 
+// The words that a step reads and writes.
+#[repr(C)]
+#[derive(Drop)]
+pub struct Words {
+    pub nodes: Nodes,
+    pub track: Track,
+}
+
+// A run. A host keeps it as C lays it out.
+#[repr(C)]
+#[derive(Drop)]
+pub struct Run {
+    pub counters: Counters,
+    pub words: Words,
+}
+
+impl Run {
+    // Words of no run, all 0.
+    pub fn new() -> Run
+        ensures { result ≡ words.no_run }
+    {
+        Run {
+            counters: [0; 8],
+            words: Words {
+                nodes: [0; NODE_WORDS],
+                track: [0; TRACK_WORDS],
+            },
+        }
+    }
+}
+
 // The sides' references.
 pub const FIRST_SIDE: usize = 4;
 

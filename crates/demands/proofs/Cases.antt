@@ -1,14 +1,9 @@
 -- Document 01, 'Further runs', B and C, as instances of the exchange. The states before the exchanged steps are
 -- reached by computation; that both orders save one text is the exchange's, and no text is worked out. Assumes
 -- nothing.
-use Prim.Native.Nat.{ℕ}
-use mathlib.Core.Path.{◌≡◌, refl, sym, ◌∙◌}
-use mathlib.Core.Bool.{Bool, true, false}
-use mathlib.Core.List.{List, [], ◌∷◌}
-use mathlib.Core.Option.{Option, none, some}
-use native.Mathlib.Omega.{arith}
-use lib.Dec.{eqb}
-use borrow.Author.Tests.{eqb-true, eqb-false}
+use Rattle.std.proofs.Common.{ℕ, ◌≡◌, refl, sym, ◌∙◌, Bool, true, false, List, [], ◌∷◌, arith, eqb, eqb-true}
+use Rattle.std.proofs.lemmas.Bool.{eqb-false}
+use Rattle.std.proofs.Math.Option.{Option, none, some}
 use Rattle.sets.specs.EventSet.{member}
 use Rattle.terms.specs.Term.{SKIP, STOP, parallel, Term, leaf, prefix, binary}
 use Rattle.rules.specs.declared.Event.{Event}

@@ -1,14 +1,11 @@
 -- Demand 2 through the doors, by the promise of a step alone. From lent words that hold a run, what a step by the digits of
 -- an address answers and leaves is what the report's tracking rules have for that address; and every plain step of the
 -- stripped control has an address, which the step accepts where its result fits. Assumes nothing.
-use Prim.Native.Nat.{ℕ, ◌≤◌}
-use mathlib.Core.Path.{◌≡◌, refl, sym, ap, ◌∙◌}
-use mathlib.Core.List.{List, []}
-use mathlib.Core.Option.{none, some}
-use mathlib.Core.Logic.{◌⊎◌, ◌↔◌}
-use native.Mathlib.Omega.{arith}
-use lib.ListN.{length, get_elem?}
-use lib.Seq.{sets}
+use Rattle.std.specs.Prelude.{ℕ, ◌≤◌, ◌≡◌, refl, List, [], ◌⊎◌, ◌↔◌, length}
+use Rattle.std.proofs.Common.{sym, ap, ◌∙◌, arith}
+use Rattle.std.proofs.lemmas.List.Edits.{sets}
+use Rattle.std.proofs.Math.Option.{none, some}
+use Rattle.std.proofs.Math.ListN.{get_elem?}
 use Rattle.scripts.specs.Script.{most}
 use Rattle.columns.specs.words.Columns.{all_columns}
 use Rattle.tables.specs.Table.{Sofar}

@@ -1,13 +1,12 @@
 -- What the theorems about a table's runs take is what its check and its layout have promised: a caller who has called both
 -- doors has every premise, with no further assumption. The promises are those that the two contracts state (`Learnt`, what a
 -- caller is told). Assumes nothing.
-use mathlib.Core.Path.{◌≡◌, sym, ap, ap₂, ◌∙◌}
-use mathlib.Core.List.{List, []}
-use Prim.Native.Nat.{ℕ}
+use Rattle.std.proofs.Common.{ℕ, ◌≡◌, sym, ap, ap₂, ◌∙◌, List, []}
 use contract.Lifetimes.{Lfts}
 use denote.Triple.Clauses.{AtExit}
 use borrow.Fn.Kinds.{Dens, ended_of, res_t}
-use Rattle.columns.specs.words.Columns.{Columns, all_columns, read_columns, with_owners}
+use Rattle.columns.specs.words.Columns.{Columns, read_columns, with_owners}
+use Rattle.columns.specs.words.Held.{held}
 use Rattle.tables.specs.Table.{judged}
 use Rattle.tables.specs.words.Columns.{Outcome}
 use Rattle.std.specs.Prelude.{Result, Ok}
@@ -24,30 +23,30 @@ use Rattle.plans.proofs.lay_out.Reads as lay-out
 use Rattle.demands.specs.words.Laid.{CheckedAndLaid}
 
 -- a call of the check: what it was lent, its answer, and what was lent as it is afterwards
-module _ (κ : Lfts 6) (lent : Dens κ checking.ps) (c : Result TableCounts RefusedAt) (left : AtExit (ended_of 6 checking.ps checking.r) κ) where
+module _ (κ : Lfts 2) (lent : Dens κ checking.ps) (c : Result TableCounts RefusedAt) (left : AtExit (ended_of 2 checking.ps checking.r) κ) where
   -- the text that was judged, and the columns that the check has left
   abbrev text_judged : List ℕ
   text_judged = let (text, _) = lent in text.now
 
   abbrev columns_left : Columns
   columns_left =
-      let (text, (kinds, (payloads, (owners, (after, (roots, _)))))) = left in
-      all_columns kinds.now payloads.now owners.now after.now roots.now
+      let (text, (table, _)) = left in
+      held table.now
 
   -- a call of the layout
-  module _ (κ' : Lfts 5) (lent' : Dens κ' laying.ps) (u : (res_t laying.r κ').Denot)
-      (left' : AtExit (ended_of 5 laying.ps laying.r) κ') where
+  module _ (κ' : Lfts 2) (lent' : Dens κ' laying.ps) (u : (res_t laying.r κ').Denot)
+      (left' : AtExit (ended_of 2 laying.ps laying.r) κ') where
     -- how many terms it was lent, with their columns, and the plan that it has left
     abbrev terms_lent : ℕ
     terms_lent = let (terms, _) = lent' in terms
 
     abbrev columns_lent : Columns
     columns_lent =
-        let (terms, (kinds, (payloads, (after, (roots, _))))) = lent' in
-        read_columns kinds.now payloads.now after.now roots.now
+        let (terms, (table, _)) = lent' in
+        read_columns table.now.kinds table.now.payloads table.now.after table.now.roots
 
     abbrev plan_left : List ℕ
-    plan_left = let (terms, (kinds, (payloads, (after, (roots, (plan, _)))))) = left' in plan.now
+    plan_left = let (terms, (table, (plan, _))) = left' in plan.now
 
     -- where both doors have kept their promises, the check has accepted the text, and the layout was lent what the check has
     -- told and left, a caller has the table

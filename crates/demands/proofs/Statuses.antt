@@ -1,11 +1,9 @@
 -- Document 02's W2 through the doors. What `status::status_at` may answer of lent words that hold a run tells whether it is
 -- at Ω, and whether the plain rules have a step of the stripped control. A run that is stuck takes no step but a STOP's own, and
 -- is stuck behind every step that it takes. Assumes nothing.
-use Prim.Native.Nat.{ℕ}
-use mathlib.Core.Path.{◌≡◌, sym, ◌∙◌}
-use mathlib.Core.List.{List}
-use mathlib.Core.Option.{some}
-use mathlib.Core.Logic.{◌↔◌}
+use Rattle.std.specs.Prelude.{ℕ, ◌≡◌, List, ◌↔◌}
+use Rattle.std.proofs.Common.{sym, ◌∙◌}
+use Rattle.std.proofs.Math.Option.{some}
 use Rattle.columns.specs.words.Columns.{all_columns}
 use Rattle.tables.specs.Table.{Sofar}
 use Rattle.tables.specs.words.Columns.{TableOf}

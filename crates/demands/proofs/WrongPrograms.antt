@@ -3,12 +3,8 @@
 -- fixed track text, and a script's line that does the script at its first line and plays along later. The first step of every
 -- table is accepted, and labels the start node; each accepted step draws a reference, so the words behind it hold neither the
 -- state before it nor any state further on. Invented counts contradict `counts_follow`. Assumes nothing.
-use Prim.Native.Nat.{ℕ, ◌<◌, ◌≤◌}
-use mathlib.Core.Path.{◌≡◌, refl, sym, ap, ◌∙◌}
-use mathlib.Core.Bool.{false≢true}
-use mathlib.Core.List.{List}
-use native.Mathlib.Omega.{arith}
-use lib.ListN.{length, drop}
+use Rattle.std.proofs.Common.{ℕ, ◌<◌, ◌≤◌, ◌≡◌, refl, sym, ap, ◌∙◌, List, arith, length, drop}
+use Rattle.std.proofs.lemmas.Bool.{false≢true}
 use Rattle.lines.specs.Line.{lines}
 use Rattle.columns.specs.words.Columns.{all_columns}
 use Rattle.tables.specs.Table.{Sofar}

@@ -1,17 +1,10 @@
 -- The end of a desk's line: the CR in front of the LF is no part of what the line says, and one anywhere else breaks it.
 -- Assumes nothing.
-use Prim.Native.Nat.{ℕ, ◌≤◌, ◌<◌, ◌+◌}
-use mathlib.Core.Path.{◌≡◌, refl, ap, ◌∙◌}
-use mathlib.Core.Bool.{Bool, true, false}
-use mathlib.Core.List.{List, [], ◌∷◌, ◌++◌, map, map-append, append-nil}
-use Rattle.std.proofs.Common.{Some, None}
+use Rattle.std.proofs.Common.{Some, None, ℕ, ◌≤◌, ◌<◌, ◌+◌, ◌≡◌, refl, ap, ◌∙◌, Bool, true, false, List, []}
+use Rattle.std.proofs.Common.{◌∷◌, ◌++◌, map, append-nil, arith, add-one, length, drop, get_or}
+use Rattle.std.proofs.Common.{drop_of_length-le, eqb, ltb, drop-cons, eq-eqb, ne_eqb, ltb-true, ltb-false}
+use Rattle.std.proofs.lemmas.List.{map-append}
 use Rattle.std.proofs.Math.Option.{none}
-use native.Mathlib.Omega.{arith}
-use native.Mathlib.Numerals.{add-one}
-use lib.ListN.{length, drop, get_or, drop_of_length-le}
-use lib.Dec.{eqb, ltb}
-use lib.Seq.{drop-cons}
-use borrow.Author.Tests.{eq-eqb, ne_eqb, ltb-true, ltb-false}
 use Rattle.lines.specs.Line.{digit, LF, Raw, full, open_ended, frame, characters}
 use Rattle.lines.proofs.Digits.{Digits, one_more, Inline, none_inline, inline, frame_broken}
 use Rattle.desk_lines.specs.DeskLine.{CR, small, without_CR, strict, desk_frame}

@@ -1,14 +1,11 @@
 -- The answer for a desk's line, by its run of digits and what stands behind that: no line's end, or one, and then the count of
 -- the digits decides. Assumes nothing.
-use Prim.Native.Nat.{ℕ, ◌≤◌, ◌<◌, ◌-◌, ◌+◌, ◌%◌}
-use Rattle.std.proofs.Common.{◌≡◌, refl, sym, ap, ap₂, ◌∙◌, Some, None}
-use mathlib.Core.Bool.{Bool, true, false}
-use mathlib.Core.List.{List, [], ◌∷◌, ◌++◌, map, append-nil, append_assoc}
-use native.Mathlib.Omega.{arith}
-use lib.ListN.{length, drop, length-append, length-drop, length-map, drop_of_length-le}
-use lib.Dec.{eqb}
-use lib.Seq.{drop-append_seam, drop-drop}
-use borrow.Author.Tests.{eqb-true, eqb-false}
+use Rattle.std.proofs.Common.{◌≡◌, refl, sym, ap, ap₂, ◌∙◌, Some, None, ℕ, ◌≤◌, ◌<◌, ◌-◌, ◌+◌, ◌%◌, Bool}
+use Rattle.std.proofs.Common.{true, false, List, [], ◌∷◌, ◌++◌, map, append-nil, append_assoc, arith, length}
+use Rattle.std.proofs.Common.{drop, length-append, length-drop, drop_of_length-le, eqb, drop-drop, eqb-true}
+use Rattle.std.proofs.lemmas.Bool.{eqb-false}
+use Rattle.std.proofs.lemmas.List.{length-map}
+use Rattle.std.proofs.Math.Seq.{drop-append_seam}
 use Rattle.lines.specs.Line.{choose, digit, full, lines, frame, characters, LF, seen, answer_of}
 use Rattle.lines.specs.code.Characters.{run}
 use Rattle.lines.specs.declared.Line.TheVariants.{Found, NoLine, End}

@@ -1,14 +1,8 @@
 -- A text respelled: its lines are the text's own, each respelled, so it is read alike, strictly too, and it is no longer. Lines
 -- and text go into each other: a text is its lines joined, and lines that a text can have are those of the joined text.
 -- Assumes nothing.
-use Prim.Native.Nat.{ℕ, ◌≤◌}
-use mathlib.Core.Path.{◌≡◌, refl, ap, ◌∙◌}
-use mathlib.Core.Bool.{Bool, true, false}
-use mathlib.Core.List.{List, [], ◌∷◌, map, append-nil}
-use native.Mathlib.Omega.{arith}
-use lib.ListN.{length, length-append}
-use lib.Dec.{eqb}
-use borrow.Author.Tests.{eqb-true}
+use Rattle.std.proofs.Common.{ℕ, ◌≤◌, ◌≡◌, refl, ap, ◌∙◌, Bool, true, false, List, [], ◌∷◌, map, append-nil}
+use Rattle.std.proofs.Common.{arith, length, length-append, eqb, eqb-true}
 use Rattle.lines.specs.Line.{choose, LF, Raw, full, open_ended, before, lines, frame, characters}
 use Rattle.lines.proofs.Digits.{Inline, none_inline, inline, lines_full, lines_open}
 use Rattle.desk_lines.specs.DeskLine.{desk_frame}

@@ -1,14 +1,10 @@
 -- The strict spelling of a desk's line: a strict line is its own, a desk's line has that one and no other, and it says the same.
 -- Assumes nothing.
-use Prim.Native.Nat.{ℕ, ◌≤◌, ◌+◌}
-use mathlib.Core.Path.{◌≡◌, refl, sym, ◌∙◌}
-use mathlib.Core.Bool.{Bool, true, false, ◌&&◌}
-use mathlib.Core.List.{List, [], ◌∷◌, map}
-use mathlib.Core.Option.{Option, none, some}
-use native.Mathlib.Omega.{arith}
-use lib.ListN.{length, length-map}
-use lib.Dec.{leb, eqb}
-use borrow.Author.Tests.{leb-true, ne_eqb}
+use Rattle.std.specs.Prelude.{ℕ, ◌≤◌, ◌+◌, ◌≡◌, refl, Bool, true, false, ◌&&◌, List, [], ◌∷◌, map, length}
+use Rattle.std.specs.Prelude.{leb, eqb}
+use Rattle.std.proofs.Common.{sym, ◌∙◌, arith, leb-true, ne_eqb}
+use Rattle.std.proofs.lemmas.List.{length-map}
+use Rattle.std.proofs.Math.Option.{Option, none, some}
 use Rattle.lines.specs.Line.{choose, LF, Raw, full, open_ended, frame, characters}
 use Rattle.lines.proofs.Digits.{both, Digits, no_more, one_more, Inline, none_inline, inline, framed_digits}
 use Rattle.lines.proofs.Written.{line_written}

@@ -2,10 +2,8 @@
 -- derivations, and each has its derivation behind the other; the two orders differ by one renumbering, which
 -- no counter, no event and no saved byte shows. It holds from every `Exchangeable` state, whose arcs may go
 -- down and round, where both orders make narrow graphs; the states and graphs of runs are such. Assumes nothing.
-use Prim.Native.Nat.{ℕ, zero, suc, ◌+◌, ◌≤◌, ◌<◌}
-use mathlib.Core.Path.{◌≡◌, refl, sym, ap, subst, ◌∙◌}
-use mathlib.Core.List.{List, ◌++◌}
-use native.Mathlib.Omega.{arith}
+use Rattle.std.specs.Prelude.{ℕ, zero, suc, ◌+◌, ◌≤◌, ◌<◌, ◌≡◌, refl, List, ◌++◌}
+use Rattle.std.proofs.Common.{sym, ap, subst, ◌∙◌, arith}
 use Rattle.terms.specs.Term.{Term}
 use Rattle.rules.specs.declared.Event.{Event}
 use Rattle.rules.specs.Process.{Address, cells}

@@ -1,11 +1,9 @@
 -- The fork: two steps in opposite sides of a parallel. Either side steps behind the other as it would have
 -- stepped first, with what it draws behind what the other drew; so the two orders draw the same two blocks of
 -- references, the one this way round and the other that, and differ by the block swap. Assumes nothing.
-use Prim.Native.Nat.{ℕ, ◌+◌, ◌-◌, ◌≤◌, ◌<◌}
-use mathlib.Core.Path.{◌≡◌, refl, sym, ap, ap₂, subst, ◌∙◌}
-use mathlib.Core.List.{List, [], ◌∷◌, ◌++◌, map}
-use mathlib.Core.Option.{Option, none, some}
-use native.Mathlib.Omega.{arith}
+use Rattle.std.proofs.Common.{ℕ, ◌+◌, ◌-◌, ◌≤◌, ◌<◌, ◌≡◌, refl, sym, ap, ap₂, subst, ◌∙◌, List, [], ◌∷◌, ◌++◌}
+use Rattle.std.proofs.Common.{map, arith}
+use Rattle.std.proofs.Math.Option.{Option, none, some}
 use Rattle.terms.specs.Term.{Term}
 use Rattle.places.specs.Place.{Place}
 use Rattle.rules.specs.declared.Event.{Event}

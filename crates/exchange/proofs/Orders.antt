@@ -1,12 +1,8 @@
 -- Two steps that agree down to a parallel and there go to opposite sides can be made in either order. By
 -- induction over what stands above the parallel: it is a fork, or a level that keeps the exchange of the
 -- level below. Assumes nothing.
-use Prim.Native.Nat.{ℕ}
-use mathlib.Core.Path.{◌≡◌, refl, subst}
-use mathlib.Core.Bool.{Bool, true}
-use mathlib.Core.List.{List, ◌∷◌}
-use mathlib.Core.Option.{Option}
-use mathlib.Core.Logic.{◌⊎◌, inl, inr}
+use Rattle.std.proofs.Common.{ℕ, ◌≡◌, refl, subst, Bool, true, List, ◌∷◌, ◌⊎◌, inl, inr}
+use Rattle.std.proofs.Math.Option.{Option}
 use Rattle.terms.specs.Term.{Term}
 use Rattle.places.specs.Place.{Place}
 use Rattle.rules.specs.declared.Event.TheVariants.{Tick as ✓}

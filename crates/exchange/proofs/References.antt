@@ -1,11 +1,8 @@
 -- The references of a process: a map that fixes them all leaves the process as it is, and where no reference
 -- is held that has not been drawn they all have been drawn. By induction over the process; what is unentered
 -- has none. Assumes nothing.
-use Prim.Native.Nat.{ℕ, ◌≤◌, ◌<◌}
-use mathlib.Core.Path.{◌≡◌, refl, ap}
-use mathlib.Core.Bool.{Bool}
-use mathlib.Core.Option.{Option, none, some}
-use native.Mathlib.Omega.{arith}
+use Rattle.std.proofs.Common.{ℕ, ◌≤◌, ◌<◌, ◌≡◌, refl, ap, Bool, arith}
+use Rattle.std.proofs.Math.Option.{Option, none, some}
 use Rattle.rules.specs.Process.{Process, leaf, prefix, internal, split, sequence, Ω, ⊥', cells}
 use Rattle.rules.proofs.Marked.{one_same, past, past_drawn, Unentered, BySide, Fit}
 use Rattle.rules.proofs.Holding.{held, side_held, split_held}

@@ -1,9 +1,8 @@
 -- Lists in two orders: the one is the other, mapped, with two parts exchanged. So are a list that is mapped
 -- where it comes second and the other so; and such lists have one length. Assumes nothing.
-use mathlib.Core.Path.{◌≡◌, refl, sym, ap, ap₂, ◌∙◌}
-use mathlib.Core.List.{List, [], ◌∷◌, ◌++◌, map, map-append, append_assoc}
-use native.Mathlib.Omega.{arith}
-use lib.ListN.{length, length-append, length-map}
+use Rattle.std.proofs.Common.{◌≡◌, refl, sym, ap, ap₂, ◌∙◌, List, [], ◌∷◌, ◌++◌, map, append_assoc, arith}
+use Rattle.std.proofs.Common.{length, length-append}
+use Rattle.std.proofs.lemmas.List.{map-append, length-map}
 
 -- two lists, the one the mapped other with two parts exchanged
 pub record Swaps {A : Type 0} (on : A → A) (xs ys : List A) : Type 0 where

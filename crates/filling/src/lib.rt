@@ -9,7 +9,7 @@ ghost use Rattle.filling.specs.code.Taking.{roots_then, column_then};
 ghost use Rattle.filling.specs.words.Preorder.{past, walked};
 ghost use Rattle.frames.specs.TableFrame.{definition_room, path_room, term_room};
 
-use columns::{After, Kinds, Owners, Payloads, Roots, after_of, after_word};
+use columns::{After, Kinds, Table, after_of, after_word};
 use frames::{Frame, Seen};
 use kinds::subterms;
 
@@ -20,36 +20,29 @@ pub const LEVEL_ROOM: usize = 65;
 pub type Waiting = [u8; LEVEL_ROOM];
 
 // Takes a frame in that meets no refusal.
-pub fn take(
-    frame: Frame,
-    s: Seen,
-    waiting: &mut Waiting,
-    kinds: &mut Kinds,
-    payloads: &mut Payloads,
-    owners: &mut Owners,
-    roots: &mut Roots,
-) -> Seen
+pub fn take(frame: Frame, s: Seen, waiting: &mut Waiting, table: &mut Table) -> Seen
     requires { Ready frame s }
     ensures value { result ≡ seen_then frame s waiting.old }
     ensures waiting_after { waiting.new ≡ waiting_then frame s waiting.old }
-    ensures kinds_after { kinds.new ≡ column_then (λ k p. k) frame s kinds.old }
-    ensures payloads_after { payloads.new ≡ column_then (λ k p. p) frame s payloads.old }
-    ensures owners_after { owners.new ≡ column_then (λ k p. s.begun - 1) frame s owners.old }
-    ensures roots_after { roots.new ≡ roots_then frame s roots.old }
+    ensures kinds_after { table.new.kinds ≡ column_then (λ k p. k) frame s table.old.kinds }
+    ensures payloads_after { table.new.payloads ≡ column_then (λ k p. p) frame s table.old.payloads }
+    ensures owners_after { table.new.owners ≡ column_then (λ k p. s.begun - 1) frame s table.old.owners }
+    ensures roots_after { table.new.roots ≡ roots_then frame s table.old.roots }
+    ensures after_kept { table.new.after ≡ table.old.after }
 {
     match frame {
         Frame::Term { kind, payload } => {
             let at = s.terms;
             let begun = s.begun;
-            kinds[at] = kind;
-            payloads[at] = payload;
-            owners[at] = (begun - 1) as u8;
+            table.kinds[at] = kind;
+            table.payloads[at] = payload;
+            table.owners[at] = (begun - 1) as u8;
             owe(kind, s, waiting)
         }
         Frame::Definition(_) => {
             let at = s.begun;
             let terms = s.terms;
-            roots[at] = terms as u16;
+            table.roots[at] = terms as u16;
             begin(s)
         }
         Frame::Opening { .. } | Frame::Closing(_) | Frame::Wrong => s,
@@ -115,7 +108,8 @@ fn last(others: usize, waiting: &Waiting) -> usize
     }
 }
 
-// Fills in, for each of the first `count` terms, the number of the term behind it.
+// Fills in, for each of the first `count` terms, the number of the term behind it. Two columns and not the table, so that their
+// types say which is read and which is written.
 pub fn walk(kinds: &Kinds, count: usize, after: &mut After)
     requires { (count ≤ term_room) × (length after.old ≡ term_room) }
     ensures { after.new ≡ walked count kinds.now after.old }

@@ -7,7 +7,7 @@ ghost use Rattle.graphs.specs.Parsed.{place_at};
 ghost use Rattle.finding.specs.code.Found as of;
 ghost use Rattle.finding.specs.words.Node.{label_at};
 
-use columns::{After, Kinds, Roots, root_of};
+use columns::{Table, root_of};
 use marks::{START_MARK, find};
 use numbers::{byte, byte_at, number_at};
 
@@ -19,8 +19,8 @@ const DEFINITION_AT: usize = 3;
 const PATH_AT: usize = 5;
 
 // The mark of node k by its line; 0, as a column has it, where the line has another number, or a place that is not a node's.
-pub fn mark_of(k: usize, chars: &[u8], kinds: &Kinds, after: &After, roots: &Roots) -> u16
-    ensures { result ≡ of.mark_of kinds.now after.now roots.now k
+pub fn mark_of(k: usize, chars: &[u8], table: &Table) -> u16
+    ensures { result ≡ of.mark_of table.now.kinds table.now.after table.now.roots k
         (label_at (read_bytes chars.now)) }
 {
     if number_at(chars, NUMBER_AT) != k {
@@ -30,11 +30,10 @@ pub fn mark_of(k: usize, chars: &[u8], kinds: &Kinds, after: &After, roots: &Roo
         return start_mark(chars);
     }
     find(
-        root_of(byte_at(chars, DEFINITION_AT), roots),
+        root_of(byte_at(chars, DEFINITION_AT), &table.roots),
         chars,
         PATH_AT,
-        kinds,
-        after,
+        table,
     )
 }
 

@@ -1,8 +1,10 @@
 -- What frame characters stand for: their bytes have a tag, the tag has a shape, and the shape has a count of
 -- bytes, which fits or does not. Assumes nothing.
-use Rattle.std.proofs.Common.{ℕ, ◌≤◌, ◌<◌, ◌-◌, ◌+◌, ◌*◌, ◌/◌, ◌≡◌, Bool, true, false, List, length, take, drop, get_or, eqb, leb, refl, sym, ap, ◌∙◌, arith, length-drop}
+use Rattle.std.proofs.Common.{ℕ, ◌≤◌, ◌<◌, ◌-◌, ◌+◌, ◌*◌, ◌/◌, ◌≡◌, Bool, true, false, List, length, take}
+use Rattle.std.proofs.Common.{drop, get_or, eqb, leb, refl, sym, ap, ◌∙◌, arith, length-drop, le-leb}
+use Rattle.std.proofs.Common.{leb-true, eq-eqb, ne_eqb}
+use Rattle.std.proofs.lemmas.Bool.{lt-leb}
 use Rattle.std.proofs.Math.Seq.{take_all}
-use borrow.Author.Tests.{le-leb, lt-leb, leb-true, eq-eqb, ne_eqb}
 use Rattle.lines.specs.Line.{choose, number}
 use Rattle.numbers.specs.code.Numbers.{read_bytes, byte_at, number_of}
 use Rattle.numbers.proofs.Laws.{read_length, read_drop, number_read}

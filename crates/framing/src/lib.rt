@@ -8,14 +8,14 @@ ghost use Rattle.spelling.specs.words.Puts.{Puts, number_cursor, line_cursor, pa
 ghost use Rattle.control.specs.words.Views.{pairs};
 ghost use Rattle.rules.specs.Track.{pair};
 ghost use Rattle.graphs.specs.Saved.{pair_frame, node_frame};
-ghost use Rattle.columns.specs.words.Columns.{columns};
+ghost use Rattle.columns.specs.words.Held.{placing};
 ghost use Rattle.framing.specs.words.Told.{labels_told};
 ghost use Rattle.framing.specs.code.Placed.{told_length, told_definition};
 ghost use Rattle.rules.specs.Run.{arc_room};
 ghost use Rattle.control.specs.words.Words.{meetings_from, reference_room};
 ghost use Rattle.frames.specs.TableFrame.{path_room};
 
-use columns::{After, Kinds, Owners, Roots};
+use columns::Table;
 use control::{Track, track_word};
 use frames::PATH_ROOM;
 use graphs::{NODE_FRAME, TRACK_EDITION, TRACK_END_FRAME, TRACK_FRAME};
@@ -94,64 +94,34 @@ const NOWHERE: u8 = 64;
 const NODE_LINE: usize = 11;
 
 // How long the lines of so many nodes are.
-pub fn nodes_length(
-    count: usize,
-    labels: &Column,
-    kinds: &Kinds,
-    owners: &Owners,
-    after: &After,
-    roots: &Roots,
-) -> usize
+pub fn nodes_length(count: usize, labels: &Column, table: &Table) -> usize
     requires { count ≤ reference_room }
     ensures value { result ≡ length (text (map node_frame (labels_told
-        (columns kinds.now owners.now after.now roots.now)
+        (placing table.now)
         labels.now 0 count))) }
     ensures upper_bound { result ≤ 139 * count }
 {
     let mut path = [0u8; PATH_ROOM];
     let mut length: usize = 0;
     for k in 0..count {
-        let placed = place(
-            literal_of(reference_word(k, labels)),
-            kinds,
-            owners,
-            after,
-            roots,
-            &mut path,
-        );
+        let placed = place(literal_of(reference_word(k, labels)), table, &mut path);
         length += NODE_LINE + 2 * path_length(placed);
     }
     length
 }
 
 // Puts the lines of so many nodes.
-pub fn put_nodes(
-    count: usize,
-    labels: &Column,
-    kinds: &Kinds,
-    owners: &Owners,
-    after: &After,
-    roots: &Roots,
-    from: usize,
-    out: &mut [u8],
-) -> usize
+pub fn put_nodes(count: usize, labels: &Column, table: &Table, from: usize, out: &mut [u8]) -> usize
     requires { (count ≤ reference_room) × (from ≤ 17) }
     ensures puts { Puts from (text (map node_frame (labels_told
-        (columns kinds.now owners.now after.now roots.now)
+        (placing table.now)
         labels.now 0 count))) out.old out.new result }
     ensures upper_bound { result ≤ from + 139 * count }
 {
     let mut path = [0u8; PATH_ROOM];
     let mut at = from;
     for k in 0..count {
-        let placed = place(
-            literal_of(reference_word(k, labels)),
-            kinds,
-            owners,
-            after,
-            roots,
-            &mut path,
-        );
+        let placed = place(literal_of(reference_word(k, labels)), table, &mut path);
         at = put_node(k, placed, &path, at, out);
     }
     at

@@ -1,10 +1,9 @@
 -- Document 01's saved texts and the reader's refusals, by computation: runs A to H, K and M with what they
 -- save, and case A's text with each rule of the reader broken in turn. A text is written as document 01 writes
 -- its case A, with `/` for LF; what is expected comes from the independent program. Assumes nothing.
-use Prim.Native.Nat.{ℕ, zero, suc, ◌+◌, ◌-◌}
+use Rattle.std.proofs.Common.{ℕ, zero, suc, ◌+◌, ◌-◌, ◌≡◌, refl, List, [], ◌∷◌, map}
 use Prim.Native.String.{String, ◌++◌, len, slice, find}
-use mathlib.Core.Path.{◌≡◌, refl}
-use mathlib.Core.List.{List, [], ◌∷◌, map, ◌++◌ as ◌++ᴸ◌}
+use mathlib.Core.List.{◌++◌ as ◌++ᴸ◌}
 use Rattle.lines.specs.Line.{digit, before, lines, pair, bytes, frame, number_from, character, hex, text}
 use Rattle.lines.specs.Line as Line
 use Rattle.lines.specs.Judging.{Judged, at_end, at_line, judged_from}

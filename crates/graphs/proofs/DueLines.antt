@@ -2,15 +2,10 @@
 -- that kind of frame and within its range; so lines that are read are the bytes of such frames one by one,
 -- what is read is what these frames say, and lines of such frames are read. Frames that are due as one kind
 -- are a list of that kind's. Assumes nothing.
-use Prim.Native.Nat.{ℕ, zero, suc, ◌+◌, ◌≤◌, ◌<◌}
-use mathlib.Core.Path.{◌≡◌, refl, ap, ◌∙◌}
-use mathlib.Core.Bool.{Bool, true, false}
-use mathlib.Core.List.{List, [], ◌∷◌, ◌++◌, map, foldl}
-use mathlib.Core.Option.{none, some}
-use native.Mathlib.Omega.{arith}
-use lib.ListN.{length, replicate}
-use lib.Dec.{leb, ltb}
-use borrow.Author.Tests.{ltb-true, leb-true}
+use Rattle.std.proofs.Common.{ℕ, zero, suc, ◌+◌, ◌≤◌, ◌<◌, ◌≡◌, refl, ap, ◌∙◌, Bool, true, false, List, []}
+use Rattle.std.proofs.Common.{◌∷◌, ◌++◌, map, arith, length, replicate, leb, ltb, ltb-true, leb-true}
+use mathlib.Core.List.{foldl}
+use Rattle.std.proofs.Math.Option.{none, some}
 use Rattle.lines.specs.Line.{Raw, frame, Bytes, byte_first, Frames, no_frames, frame_first}
 use Rattle.lines.specs.Judging.{Judged, accepted, judged_from}
 use Rattle.lines.proofs.Digits.{both}

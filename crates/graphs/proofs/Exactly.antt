@@ -1,12 +1,10 @@
 -- Two runs of one table save equal bytes exactly when one is a renumbering of the other. Equal bytes are the
 -- text of one canonical graph, to which the references of both are renumbered; and what a renumbering carries to
 -- each other has one canonical graph. Assumes nothing.
-use Prim.Native.Nat.{ℕ, ◌≤◌, ◌<◌}
-use mathlib.Core.Path.{◌≡◌, sym, ap, subst}
-use mathlib.Core.List.{List}
-use mathlib.Core.Option.{some}
-use mathlib.Core.Logic.{◌↔◌}
-use lib.ListN.{length, get_elem?}
+use Rattle.std.specs.Prelude.{ℕ, ◌≤◌, ◌<◌, ◌≡◌, List, ◌↔◌, length}
+use Rattle.std.proofs.Common.{sym, ap, subst}
+use Rattle.std.proofs.Math.Option.{some}
+use Rattle.std.proofs.Math.ListN.{get_elem?}
 use Rattle.terms.specs.Term.{Term, Shallow}
 use Rattle.rules.specs.Run.{State, Reached}
 use Rattle.graphs.specs.Graph.{graph_of}

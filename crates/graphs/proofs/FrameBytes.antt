@@ -1,15 +1,9 @@
 -- A frame of a saved track and its bytes determine each other. Where a frame's numbers are of their width its
 -- bytes are read as that frame; and bytes that are not wrong are those of the frame that is read from them,
 -- since they are cut into its numbers from the first byte to the last. Assumes nothing.
-use Prim.Native.Nat.{ℕ, zero, suc, ◌+◌, ◌*◌, ◌/◌, ◌%◌, ◌≤◌, ◌<◌}
-use mathlib.Core.Path.{◌≡◌, refl, ap}
-use mathlib.Core.Bool.{Bool, true, false}
-use mathlib.Core.List.{List, [], ◌∷◌, ◌++◌}
-use native.Mathlib.Omega.{arith}
-use lib.ListN.{length, get_or, drop, length-drop, drop_of_length-le}
-use lib.Seq.{drop-cons}
-use lib.Dec.{eqb}
-use borrow.Author.Tests.{eqb-true, eq-eqb}
+use Rattle.std.proofs.Common.{ℕ, zero, suc, ◌+◌, ◌*◌, ◌/◌, ◌%◌, ◌≤◌, ◌<◌, ◌≡◌, refl, ap, Bool, true, false}
+use Rattle.std.proofs.Common.{List, [], ◌∷◌, ◌++◌, arith, length, get_or, drop, length-drop}
+use Rattle.std.proofs.Common.{drop_of_length-le, drop-cons, eqb, eqb-true, eq-eqb}
 use Rattle.lines.specs.Line.{choose, number, number_from, two, Bytes, no_bytes, byte_first, Frames}
 use Rattle.lines.specs.Line.{frame_first, number_at}
 use Rattle.lines.proofs.Digits.{both}

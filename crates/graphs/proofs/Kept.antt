@@ -2,15 +2,10 @@
 -- its theorem. A run's canonical graph has the reader's shape and fits its text, so its text is read as that
 -- graph; a text that is read is the text of its graph, which is its own canonical graph. That the counts in
 -- frame 30 are the lines that follow is `counts_follow` in Spelled. Assumes nothing.
-use Prim.Native.Nat.{ℕ, ◌≤◌, ◌<◌}
-use mathlib.Core.Path.{◌≡◌, refl, sym, ap, ◌∙◌}
-use mathlib.Core.Bool.{Bool, true, false}
-use mathlib.Core.List.{List, [], ◌∷◌}
-use mathlib.Core.Option.{some}
-use mathlib.Core.Logic.{◌⊎◌, inl, inr}
-use native.Mathlib.Omega.{arith}
-use lib.ListN.{length, get_elem?}
-use lib.Dec.{ltb}
+use Rattle.std.specs.Prelude.{ℕ, ◌≤◌, ◌<◌, ◌≡◌, refl, Bool, true, false, List, [], ◌∷◌, ◌⊎◌, length, ltb}
+use Rattle.std.proofs.Common.{sym, ap, ◌∙◌, inl, inr, arith}
+use Rattle.std.proofs.Math.Option.{some}
+use Rattle.std.proofs.Math.ListN.{get_elem?}
 use Rattle.lines.specs.Line.{choose, two, text, lines}
 use Rattle.lines.specs.Judging.{Judged, accepted, refused}
 use Rattle.terms.specs.Term.{Term, Shallow}

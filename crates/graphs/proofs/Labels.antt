@@ -2,14 +2,10 @@
 -- side, and whatever a later step labels is another reference, with the place of a literal of the table. Each rule
 -- labels places of literals that control carries, and these have their places; and no reference is labelled twice.
 -- By the derivation, rule by rule; for a run, by its accepted steps. Assumes nothing.
-use Prim.Native.Nat.{ℕ, ◌≤◌}
-use mathlib.Core.Path.{◌≡◌, refl, sym, subst, ap}
-use mathlib.Core.Bool.{true}
+use Rattle.std.proofs.Common.{ℕ, ◌≤◌, ◌≡◌, refl, sym, subst, ap, true, List, [], ◌∷◌, ◌++◌, ◌⊎◌, inl, inr}
+use Rattle.std.proofs.Common.{arith}
 use mathlib.Core.List.Memᴰ
-use mathlib.Core.List.{List, [], ◌∷◌, ◌++◌}
-use mathlib.Core.Option.{Option, none, some, some-injective}
-use mathlib.Core.Logic.{◌⊎◌, inl, inr}
-use native.Mathlib.Omega.{arith}
+use Rattle.std.proofs.Math.Option.{Option, none, some, some-injective}
 use Rattle.terms.specs.Term.{Term}
 use Rattle.places.specs.Place.{Place, left_path}
 use Rattle.rules.specs.declared.Event.TheVariants.{Tau as τ}

@@ -2,16 +2,11 @@
 -- term whose own literal stands there, as the reader finds it; at a prefix's event no subterm stands. So a place
 -- splits for the reader exactly where it does for tracking; and a literal's path is of digits 1 and 2, and no
 -- longer than its definition's paths are. By induction over paths, and over the sides of terms. Assumes nothing.
-use Prim.Native.Nat.{ℕ, zero, suc, ◌+◌, ◌-◌, ◌≤◌, ◌<◌}
-use mathlib.Core.Path.{◌≡◌, refl, sym, subst, ap, ◌∙◌}
-use mathlib.Core.Bool.{Bool, true, false}
-use mathlib.Core.List.{List, [], ◌∷◌}
-use mathlib.Core.Logic.{◌⊎◌, inl, inr}
-use mathlib.Core.Option.{Option, none, some, some-injective}
-use native.Mathlib.Omega.{arith}
-use lib.ListN.{length, get_elem?}
-use lib.Dec.{eqb, ltb}
-use borrow.Author.Tests.{eqb-true, le-leb, lt-ltb}
+use Rattle.std.proofs.Common.{ℕ, zero, suc, ◌+◌, ◌-◌, ◌≤◌, ◌<◌, ◌≡◌, refl, sym, subst, ap, ◌∙◌, Bool, true}
+use Rattle.std.proofs.Common.{false, List, [], ◌∷◌, ◌⊎◌, inl, inr, arith, length, eqb, ltb, eqb-true, le-leb}
+use Rattle.std.proofs.Common.{lt-ltb}
+use Rattle.std.proofs.Math.Option.{Option, none, some, some-injective}
+use Rattle.std.proofs.Math.ListN.{get_elem?}
 use Rattle.lines.specs.Line.{choose, Bytes, no_bytes, byte_first}
 use Rattle.frames.specs.TableFrame.{path_room}
 use Rattle.terms.specs.Term.{Term, external, parallel, size, Shallow}

@@ -1,14 +1,10 @@
 -- Lists of pairs are told by what they join. The first of ascending pairs is before all others, so
 -- ascending lists that join the same have the same first, and the same rest; and a test that every listed
 -- pair passes is one that every joined pair of numbers passes. Assumes nothing.
-use Prim.Native.Nat.{ℕ, ◌<◌}
-use mathlib.Core.Path.{◌≡◌, refl, sym, ap, ◌∙◌, subst}
-use mathlib.Core.Bool.{Bool, true, false, ◌&&◌, ◌||◌, or-true, or_assoc}
-use mathlib.Core.List.{List, [], ◌∷◌, ◌++◌}
-use mathlib.Core.Logic.{◌⊎◌, inl, inr}
-use native.Mathlib.Omega.{arith}
-use lib.Dec.{ltb, eqb}
-use borrow.Author.Tests.{eqb-true, eq-eqb, ltb-true, lt-ltb, le-ltb}
+use Rattle.std.proofs.Common.{ℕ, ◌<◌, ◌≡◌, refl, sym, ap, ◌∙◌, subst, Bool, true, false, ◌&&◌, ◌||◌, List, []}
+use Rattle.std.proofs.Common.{◌∷◌, ◌++◌, ◌⊎◌, inl, inr, arith, ltb, eqb, eqb-true, eq-eqb, ltb-true, lt-ltb}
+use Rattle.std.proofs.Common.{le-ltb}
+use Rattle.std.proofs.Math.Bool.{or-true, or_assoc}
 use Rattle.lines.proofs.Digits.{both}
 use Rattle.rules.specs.Track.{Pair, pair}
 use Rattle.rules.proofs.Offered.{or_either}

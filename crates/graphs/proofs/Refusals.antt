@@ -1,11 +1,7 @@
 -- The refusals of a saved text. No line meets a number over 3; so a text that is refused at a line is refused
 -- with 1, 2 or 3 and that line, and one whose lines say a graph with 13 and line 0. Assumes nothing.
-use Prim.Native.Nat.{ℕ, zero, suc, ◌≤◌}
-use mathlib.Core.Path.{◌≡◌, refl}
-use mathlib.Core.Bool.{Bool, true, false, ◌&&◌}
-use mathlib.Core.List.{List, [], ◌∷◌}
-use native.Mathlib.Omega.{arith}
-use lib.Dec.{leb, eqb}
+use Rattle.std.proofs.Common.{ℕ, zero, suc, ◌≤◌, ◌≡◌, refl, Bool, true, false, ◌&&◌, List, [], ◌∷◌, arith}
+use Rattle.std.proofs.Common.{leb, eqb}
 use Rattle.lines.specs.Line.{choose, Raw}
 use Rattle.lines.specs.Judging.{Judged, accepted, refused, judged_from}
 use Rattle.lines.proofs.Judging.{refused_line}

@@ -1,12 +1,9 @@
 -- A map that carries a part of one graph to another carries the order of the walk. Where each node has at
 -- most one way on of each kind, the ways on are known by who is among them, so the mapped ways on are those
 -- of the other graph; and the walk of renamed ways on is the renamed walk. Assumes nothing.
-use Prim.Native.Nat.{ℕ, suc, ◌+◌, ◌≤◌}
-use mathlib.Core.Path.{◌≡◌, refl, sym, ap, ◌∙◌, subst}
-use mathlib.Core.Bool.{Bool, true, false, ◌&&◌, not}
-use mathlib.Core.List.{List, [], ◌∷◌, map, map-append}
-use native.Mathlib.Omega.{arith}
-use lib.ListN.{length}
+use Rattle.std.proofs.Common.{ℕ, suc, ◌+◌, ◌≤◌, ◌≡◌, refl, sym, ap, ◌∙◌, subst, Bool, true, false, ◌&&◌, not}
+use Rattle.std.proofs.Common.{List, [], ◌∷◌, map, arith, length}
+use Rattle.std.proofs.lemmas.List.{map-append}
 use Rattle.lines.specs.Line.{choose}
 use Rattle.lines.proofs.Digits.{both}
 use Rattle.rules.specs.Track.{lookup}

@@ -2,14 +2,9 @@
 -- listed, so two graphs that one carries to each other have one canonical graph. It goes back, and one behind
 -- another is one; and where the walk reaches all labelled references and none meets itself, numbering them is
 -- one. Assumes nothing.
-use Prim.Native.Nat.{ℕ, suc, ◌<◌}
-use mathlib.Core.Path.{◌≡◌, refl, sym, ap, ◌∙◌}
-use mathlib.Core.Bool.{Bool, true, false}
-use mathlib.Core.List.{List, [], ◌∷◌, map}
-use native.Mathlib.Omega.{arith}
-use lib.ListN.{length}
-use lib.Dec.{eqb}
-use borrow.Author.Tests.{eqb-true, eqb-false, ltb-true, le-ltb}
+use Rattle.std.proofs.Common.{ℕ, suc, ◌<◌, ◌≡◌, refl, sym, ap, ◌∙◌, Bool, true, false, List, [], ◌∷◌, map}
+use Rattle.std.proofs.Common.{arith, length, eqb, eqb-true, ltb-true, le-ltb}
+use Rattle.std.proofs.lemmas.Bool.{eqb-false}
 use Rattle.rules.specs.Track.{lookup, Label}
 use Rattle.graphs.specs.Graph.{joins, meets, Graph, labelled, present}
 use Rattle.graphs.specs.Walk.{among, order}

@@ -2,16 +2,14 @@
 -- frames that its counts make due, and frames so due are those of one graph, whose counts those are; line 1
 -- is the graph's by them. So a graph within the rooms is read back from its text, and a text that is read is
 -- its graph's. Assumes nothing.
-use Prim.Native.Nat.{ℕ, ◌+◌, ◌*◌, ◌≤◌}
-use mathlib.Core.Path.{◌≡◌, refl, ap, ◌∙◌}
-use mathlib.Core.Bool.{◌&&◌}
-use mathlib.Core.List.{List, [], ◌∷◌, ◌++◌, map, map-append, map-map, foldl, foldl-append, append-nil}
-use mathlib.Core.Option.{none, some}
-use native.Mathlib.Omega.{arith}
-use lib.ListN.{length, take, replicate, length-append, length-map}
-use lib.Seq.{append_snoc}
-use lib.Dec.{leb, eqb}
-use borrow.Author.Tests.{eqb-true, eq-eqb, leb-true, le-leb}
+use Rattle.std.proofs.Common.{ℕ, ◌+◌, ◌*◌, ◌≤◌, ◌≡◌, refl, ap, ◌∙◌, ◌&&◌, List, [], ◌∷◌, ◌++◌, map}
+use Rattle.std.proofs.Common.{append-nil, arith, length, take, replicate, length-append, leb, eqb, eqb-true}
+use Rattle.std.proofs.Common.{eq-eqb, leb-true, le-leb}
+use Rattle.std.proofs.lemmas.List.{map-append, length-map}
+use Rattle.std.proofs.lemmas.Simd.{map-map}
+use mathlib.Core.List.{foldl, foldl-append}
+use Rattle.std.proofs.Math.Option.{none, some}
+use Rattle.std.proofs.Math.Seq.{append_snoc}
 use Rattle.lines.specs.Line.{Raw, frame, lines, two, hex, text, LF}
 use Rattle.lines.specs.Judging.{accepted, judged_from}
 use Rattle.lines.proofs.Digits.{both}

@@ -2,15 +2,10 @@
 -- most once to its .1 side and at most once elsewhere, and branches as its place allows, meetings join two event
 -- nodes of one event, and all is in range and within the rooms. Each is a law of runs told by counts, read through
 -- what looking up, joining and keeping count. Assumes nothing.
-use Prim.Native.Nat.{ℕ, zero, suc, ◌≤◌, ◌<◌}
-use mathlib.Core.Path.{◌≡◌, refl, sym, subst, ap, ◌∙◌}
-use mathlib.Core.Bool.{Bool, true, false, not, ◌||◌}
-use mathlib.Core.List.{List}
-use mathlib.Core.Option.{Option, none, some}
-use mathlib.Core.Logic.{◌⊎◌, inl, inr, ⊎_elim}
-use native.Mathlib.Omega.{arith}
-use lib.ListN.{length, get_elem?}
-use borrow.Author.Tests.{eq-eqb, ne_eqb, le-leb}
+use Rattle.std.proofs.Common.{ℕ, zero, suc, ◌≤◌, ◌<◌, ◌≡◌, refl, sym, subst, ap, ◌∙◌, Bool, true, false, not}
+use Rattle.std.proofs.Common.{◌||◌, List, ◌⊎◌, inl, inr, ⊎_elim, arith, length, eq-eqb, ne_eqb, le-leb}
+use Rattle.std.proofs.Math.Option.{Option, none, some}
+use Rattle.std.proofs.Math.ListN.{get_elem?}
 use Rattle.lines.specs.Line.{no_bytes, byte_first}
 use Rattle.terms.specs.Term.{Term, Shallow}
 use Rattle.places.specs.Place.{Place, under}

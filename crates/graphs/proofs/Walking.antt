@@ -3,16 +3,13 @@
 -- any domain that the ways do not leave, a renaming of the domain renames the walk, and a walk that comes to
 -- an end has gone wherever it could. It comes to an end where distinct references have few ways on: each turn
 -- takes one of them. Assumes nothing.
-use Prim.Native.Nat.{ℕ, zero, suc, ◌+◌, ◌*◌, ◌≤◌, ◌<◌}
-use mathlib.Core.Path.{◌≡◌, refl, sym, ap, subst, ◌∙◌}
-use mathlib.Core.Bool.{Bool, true, false, ◌||◌, or_assoc}
-use mathlib.Core.List.{List, [], ◌∷◌, ◌++◌, map, map-append, map-id, append_assoc, append-nil}
-use mathlib.Core.Logic.{◌⊎◌, inl, inr, ⊎_elim}
-use native.Mathlib.Omega.{arith}
-use native.Mathlib.Nat.{zero-mul, suc-mul}
-use lib.ListN.{length, length-append}
-use lib.Dec.{eqb}
-use borrow.Author.Tests.{eqb-true, eqb-false, eq-eqb, ne_eqb, lt-ltb, le-ltb}
+use Rattle.std.proofs.Common.{ℕ, zero, suc, ◌+◌, ◌*◌, ◌≤◌, ◌<◌, ◌≡◌, refl, sym, ap, subst, ◌∙◌, Bool, true}
+use Rattle.std.proofs.Common.{false, ◌||◌, List, [], ◌∷◌, ◌++◌, map, map-id, append_assoc, append-nil, ◌⊎◌}
+use Rattle.std.proofs.Common.{inl, inr, ⊎_elim, arith, zero-mul, suc-mul, length, length-append, eqb}
+use Rattle.std.proofs.Common.{eqb-true, eq-eqb, ne_eqb, lt-ltb, le-ltb}
+use Rattle.std.proofs.lemmas.Bool.{eqb-false}
+use Rattle.std.proofs.lemmas.List.{map-append}
+use Rattle.std.proofs.Math.Bool.{or_assoc}
 use Rattle.lines.specs.Line.{choose}
 use Rattle.rules.proofs.Offered.{or_left, or_right, or_either}
 use Rattle.rules.proofs.Marked.{one, past, next_past}

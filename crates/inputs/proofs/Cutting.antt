@@ -1,16 +1,12 @@
 -- Where an input's table ends: within the input, and for the first n bytes of it at the same place or at n.
 -- Lines are counted byte by byte: a byte that is no LF makes the first line one longer, an LF ends a line, and
 -- the text's first two bytes tell whether the first line starts `1f` or `1F`. Assumes nothing.
-use Prim.Native.Nat.{ℕ, zero, suc, ◌+◌, ◌-◌, ◌≤◌, ◌<◌, min}
-use Rattle.std.proofs.Common.{◌≡◌, refl, sym, ap, ◌∙◌, cond, not, Some, None}
+use Rattle.std.proofs.Common.{◌≡◌, refl, sym, ap, ◌∙◌, cond, not, Some, None, ℕ, zero, suc, ◌+◌, ◌-◌, ◌≤◌}
+use Rattle.std.proofs.Common.{◌<◌, min, Bool, true, false, ◌||◌, List, [], ◌∷◌, arith, length, take, drop}
+use Rattle.std.proofs.Common.{get_or, length-drop, drop_of_length-le, eqb, ltb, take_all, drop-drop}
+use Rattle.std.proofs.Common.{drop-cons, eqb-true, ltb-true, ltb-false}
 use Rattle.std.specs.List.{position, position_or_len}
-use mathlib.Core.Bool.{Bool, true, false, ◌||◌}
-use mathlib.Core.List.{List, [], ◌∷◌}
-use native.Mathlib.Omega.{arith}
-use lib.ListN.{length, take, drop, get_or, length-drop, drop_of_length-le}
-use lib.Dec.{eqb, ltb}
-use lib.Seq.{take-nil, take-length, take_all, drop-drop, drop-cons}
-use borrow.Author.Tests.{eqb-true, ltb-true, ltb-false}
+use Rattle.std.proofs.Math.Seq.{take-nil, take-length}
 use Rattle.lines.specs.Line.{choose, LF, Raw, full, open_ended, before, lines, characters}
 use Rattle.inputs.specs.Cut.{one, f, capital_f, starts_1f, extent, table_length}
 use Rattle.inputs.specs.code.Lengths.{line_length}

@@ -36,7 +36,7 @@ pub fn table_end(text: &[u8]) -> usize
     at
 }
 
-// Room for an input, all 0.
+// Room for an input, all 0: a function, since docs/DOORS.md names it, for whoever writes a program of their own.
 pub fn input_room() -> [u8; INPUT_ROOM]
     ensures { result ≡ replicate 98305 0 }
 {

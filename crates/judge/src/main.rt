@@ -5,10 +5,11 @@
 
 mod words;
 
+use columns::Table;
 use inputs::{input_room, table_and_script};
-use loaded::Table;
 use standard_input::read_full;
 use std::io;
+use tables::check;
 use words::{say_refusal, say_script, say_table};
 
 fn main(rt: HostRuntime) -> io::Result<()> {
@@ -21,7 +22,7 @@ fn main(rt: HostRuntime) -> io::Result<()> {
 fn judge(rt: &impl Print, input: &[u8]) -> io::Result<()> {
     let (text, script) = table_and_script(input);
     let mut table = Table::new();
-    match table.check(text) {
+    match check(text, &mut table) {
         Err(refused) => say_refusal(rt, "table", refused),
         Ok(counts) => {
             say_table(rt, counts, &table)?;

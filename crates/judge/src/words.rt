@@ -1,10 +1,9 @@
 // What was judged, in words, a line each.
-use columns::{after_of, kind_of, payload_of};
+use columns::{Table, after_of, kind_of, payload_of};
 use frames::{DEFINITION_ROOM, PATH_ROOM};
 use kinds::PREFIX;
-use lines::{Refusal, RefusedAt};
-use loaded::Table;
-use places::{Literal, Placed};
+use lines::{Refusal, RefusedAt, part_of};
+use places::{Literal, Placed, place};
 use scripts::{Address, DIGIT_ROOM, SCRIPT_TEXT_ROOM, next_step};
 use std::io;
 use tables::TableCounts;
@@ -61,10 +60,10 @@ fn say_term(rt: &impl Print, n: usize, table: &Table) -> io::Result<()> {
 // The place of a literal: its definition and its path.
 fn say_place(rt: &impl Print, literal: Literal, table: &Table) -> io::Result<()> {
     let mut path = [0u8; PATH_ROOM];
-    match table.place(literal, &mut path) {
+    match place(literal, table, &mut path) {
         Some(Placed { definition, length }) => {
             print!(rt; " {definition}")?;
-            say_digits(rt, &path, length)
+            say_digits(rt, part_of(&path, 0, length))
         }
         None => print!(rt; " nowhere"),
     }
@@ -81,7 +80,7 @@ pub fn say_script(rt: &impl Print, script: &[u8]) -> io::Result<()> {
         match next_step(script, at, &mut digits) {
             Ok(Some(Address { count, next })) => {
                 print!(rt; "step {line}")?;
-                say_digits(rt, &digits, count)?;
+                say_digits(rt, part_of(&digits, 0, count))?;
                 println!(rt)?;
                 at = next;
             }
@@ -92,13 +91,13 @@ pub fn say_script(rt: &impl Print, script: &[u8]) -> io::Result<()> {
     Ok(())
 }
 
-// The first digits of an array behind a blank, and a dash where there are none.
-fn say_digits(rt: &impl Print, digits: &[u8], count: usize) -> io::Result<()> {
-    if count == 0 {
+// Digits behind a blank, and a dash where there are none.
+fn say_digits(rt: &impl Print, digits: &[u8]) -> io::Result<()> {
+    if digits.is_empty() {
         return print!(rt; " -");
     }
     print!(rt; " ")?;
-    for digit in digits.iter().take(count) {
+    for digit in digits {
         print!(rt; "{digit}")?;
     }
     Ok(())

@@ -1,8 +1,5 @@
 -- The constant table by kind: each place of a list is at most its largest, which computes. Assumes nothing.
-use Prim.Native.Nat.{ℕ, zero, suc, ◌≤◌, ◌-◌, ◌+◌}
-use mathlib.Core.List.{List, [], ◌∷◌}
-use native.Mathlib.Omega.{arith}
-use lib.ListN.{get_or}
+use Rattle.std.proofs.Common.{ℕ, zero, suc, ◌≤◌, ◌-◌, ◌+◌, List, [], ◌∷◌, arith, get_or}
 use Rattle.kinds.specs.Kind.{payload_table, subterm_table, payload_bytes, subterms}
 
 -- the largest of a list

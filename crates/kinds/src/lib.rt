@@ -5,7 +5,8 @@
 ghost use Rattle.std.specs.Prelude.{◌≡◌};
 ghost use Rattle.kinds.specs.Kind as Kinds;
 
-// The kinds of terms, as a frame and a column have them.
+// The kinds of terms, as a frame and a column have them. Bytes and no enum: a frame and a column that C lends may have any byte,
+// and `payload_bytes` and `subterms` answer for each, so that an enum would ask more of their callers.
 pub const CALL: u8 = 1;
 
 pub const PREFIX: u8 = 2;

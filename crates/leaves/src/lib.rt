@@ -5,7 +5,7 @@
 ghost use Rattle.std.specs.Prelude.{◌≡◌};
 ghost use Rattle.leaves.specs.code.Leaves as spec;
 
-use control::{BOTTOM, FRAME, Nodes, OMEGA, SIDES, TERM, Track, UNTOUCHED, less, sum, word};
+use control::{BOTTOM, FRAME, OMEGA, SIDES, TERM, UNTOUCHED, Words, less, sum, word};
 use drawing::{Tally, draw, join, keep, label, past_fresh, stand};
 use looking::{beyond, taken};
 use marks::{START_MARK, event_mark, own_mark};
@@ -26,13 +26,17 @@ pub struct Taken {
 }
 
 // The start's call, at reference 0: its node is labelled with the left-hand side of definition 00, whose root is term 0.
-pub fn call_start(tally: Tally, nodes: &mut Nodes, track: &mut Track) -> Taken
-    ensures { spec.with_words result nodes.new track.new
-        ≡ spec.called tally nodes.old track.old }
+pub fn call_start(tally: Tally, words: &mut Words) -> Taken
+    ensures { spec.with_words result words.new.nodes words.new.track
+        ≡ spec.called tally words.old.nodes words.old.track }
 {
     let next = tally.fresh;
-    let drawn = draw(0, label(0, START_MARK, tally, nodes), track);
-    stand(next, UNTOUCHED, 0, 0, nodes);
+    let drawn = draw(
+        0,
+        label(0, START_MARK, tally, &mut words.nodes),
+        &mut words.track,
+    );
+    stand(next, UNTOUCHED, 0, 0, &mut words.nodes);
     come(Event::Tau, next, 1, 0, drawn)
 }
 
@@ -45,38 +49,41 @@ pub fn take_leaf(
     digit: usize,
     tally: Tally,
     plan: &Plan,
-    nodes: &mut Nodes,
-    track: &mut Track,
+    words: &mut Words,
 ) -> Taken
-    ensures { spec.with_words result nodes.new track.new
-        ≡ spec.leaf plan.now n bound at size digit tally nodes.old track.old }
+    ensures { spec.with_words result words.new.nodes words.new.track
+        ≡ spec.leaf plan.now n bound at size digit tally words.old.nodes words.old.track }
 {
-    let t = word(n, TERM, nodes);
-    let frame = word(n, FRAME, nodes);
+    let t = word(n, TERM, &words.nodes);
+    let frame = word(n, FRAME, &words.nodes);
     let kind = kind_of(t, plan);
     if kind == PREFIX_WORD {
         let event = operand_of(t, plan);
-        return take_prefix(n, t, frame, event, at, size, tally, nodes, track);
+        return take_prefix(n, t, frame, event, at, size, tally, words);
     }
     let next = tally.fresh;
-    let drawn = draw(n, label(n, own_mark(t), tally, nodes), track);
+    let drawn = draw(
+        n,
+        label(n, own_mark(t), tally, &mut words.nodes),
+        &mut words.track,
+    );
     if kind == SKIP_WORD {
-        stand(next, OMEGA, 0, 0, nodes);
+        stand(next, OMEGA, 0, 0, &mut words.nodes);
         let ended = come(Event::Tick, next, size, at, drawn);
-        return settle(ended, t, frame, bound, plan, nodes, track);
+        return settle(ended, t, frame, bound, plan, words);
     }
     if kind == STOP_WORD {
-        stand(next, BOTTOM, t, frame, nodes);
+        stand(next, BOTTOM, t, frame, &mut words.nodes);
         return come(Event::Tau, next, size, at, drawn);
     }
     if kind == CALL_WORD {
         let root = operand_of(t, plan);
         let outer = beyond(t, n, frame, plan);
-        stand(next, UNTOUCHED, root, outer, nodes);
+        stand(next, UNTOUCHED, root, outer, &mut words.nodes);
         return come(Event::Tau, next, size, at, drawn);
     }
     let side = taken(digit, sum(t, 1), second_of(t, plan));
-    stand(next, UNTOUCHED, side, frame, nodes);
+    stand(next, UNTOUCHED, side, frame, &mut words.nodes);
     come(Event::Tau, next, size, sum(at, 1), drawn)
 }
 
@@ -89,18 +96,25 @@ fn take_prefix(
     at: usize,
     size: usize,
     tally: Tally,
-    nodes: &mut Nodes,
-    track: &mut Track,
+    words: &mut Words,
 ) -> Taken
-    ensures { spec.with_words result nodes.new track.new
-        ≡ spec.prefix n t frame event at size tally nodes.old track.old }
+    ensures { spec.with_words result words.new.nodes words.new.track
+        ≡ spec.prefix n t frame event at size tally words.old.nodes words.old.track }
 {
     let arrow = tally.fresh;
-    let first = draw(n, label(n, event_mark(t), tally, nodes), track);
+    let first = draw(
+        n,
+        label(n, event_mark(t), tally, &mut words.nodes),
+        &mut words.track,
+    );
     let next = first.fresh;
-    let second = draw(arrow, label(arrow, own_mark(t), first, nodes), track);
-    let kept = keep(n, second, track);
-    stand(next, UNTOUCHED, sum(t, 1), frame, nodes);
+    let second = draw(
+        arrow,
+        label(arrow, own_mark(t), first, &mut words.nodes),
+        &mut words.track,
+    );
+    let kept = keep(n, second, &mut words.track);
+    stand(next, UNTOUCHED, sum(t, 1), frame, &mut words.nodes);
     come(Event::Visible((event % 256) as u8), next, size, at, kept)
 }
 
@@ -112,21 +126,20 @@ pub fn take_end(
     size: usize,
     tally: Tally,
     plan: &Plan,
-    nodes: &mut Nodes,
-    track: &mut Track,
+    words: &mut Words,
 ) -> Taken
-    ensures { spec.with_words result nodes.new track.new
-        ≡ spec.end plan.now n bound at size tally nodes.old track.old }
+    ensures { spec.with_words result words.new.nodes words.new.track
+        ≡ spec.end plan.now n bound at size tally words.old.nodes words.old.track }
 {
     let next = tally.fresh;
-    let first = word(n, SIDES + 1, nodes);
-    let second = word(n, SIDES + 2, nodes);
-    let joined = past_fresh(join(first, second, next, tally, track));
-    stand(next, OMEGA, 0, 0, nodes);
+    let first = word(n, SIDES + 1, &words.nodes);
+    let second = word(n, SIDES + 2, &words.nodes);
+    let joined = past_fresh(join(first, second, next, tally, &mut words.track));
+    stand(next, OMEGA, 0, 0, &mut words.nodes);
     let ended = come(Event::Tick, next, less(size, 2), sum(at, 1), joined);
-    let t = word(n, TERM, nodes);
-    let frame = word(n, FRAME, nodes);
-    settle(ended, t, frame, bound, plan, nodes, track)
+    let t = word(n, TERM, &words.nodes);
+    let frame = word(n, FRAME, &words.nodes);
+    settle(ended, t, frame, bound, plan, words)
 }
 
 // What a step comes to inside the sequences around term t: a ✓ starts the right of the innermost, where there is one
@@ -137,11 +150,10 @@ pub fn settle(
     frame: usize,
     bound: usize,
     plan: &Plan,
-    nodes: &mut Nodes,
-    track: &mut Track,
+    words: &mut Words,
 ) -> Taken
-    ensures { spec.with_words result nodes.new track.new
-        ≡ spec.settled plan.now done t frame bound nodes.old track.old }
+    ensures { spec.with_words result words.new.nodes words.new.track
+        ≡ spec.settled plan.now done t frame bound words.old.nodes words.old.track }
 {
     let event = done.event;
     let Event::Tick = event else {
@@ -149,33 +161,30 @@ pub fn settle(
     };
     let around = around_of(t, plan);
     if around != 0 {
-        return start(done, less(around, 1), frame, plan, nodes, track);
+        return start(done, less(around, 1), frame, plan, words);
     }
     if frame == bound {
         return done;
     }
-    let outer = around_of(word(frame, TERM, nodes), plan);
-    let behind = word(frame, FRAME, nodes);
-    start(done, less(outer, 1), behind, plan, nodes, track)
+    let outer = around_of(word(frame, TERM, &words.nodes), plan);
+    let behind = word(frame, FRAME, &words.nodes);
+    start(done, less(outer, 1), behind, plan, words)
 }
 
 // Sequence k, whose left has ended, starts its right.
-fn start(
-    done: Taken,
-    k: usize,
-    frame: usize,
-    plan: &Plan,
-    nodes: &mut Nodes,
-    track: &mut Track,
-) -> Taken
-    ensures { spec.with_words result nodes.new track.new
-        ≡ spec.started plan.now done k frame nodes.old track.old }
+fn start(done: Taken, k: usize, frame: usize, plan: &Plan, words: &mut Words) -> Taken
+    ensures { spec.with_words result words.new.nodes words.new.track
+        ≡ spec.started plan.now done k frame words.old.nodes words.old.track }
 {
     let last = done.reference;
     let tally = done.tally;
     let next = tally.fresh;
-    let drawn = draw(last, label(last, own_mark(k), tally, nodes), track);
-    stand(next, UNTOUCHED, second_of(k, plan), frame, nodes);
+    let drawn = draw(
+        last,
+        label(last, own_mark(k), tally, &mut words.nodes),
+        &mut words.track,
+    );
+    stand(next, UNTOUCHED, second_of(k, plan), frame, &mut words.nodes);
     come(Event::Tau, next, less(done.size, 1), done.at, drawn)
 }
 

@@ -1,6 +1,5 @@
 -- What holds of both is what holds of the chosen one. Assumes nothing.
-use Prim.Native.Nat.{ℕ, ◌≤◌}
-use mathlib.Core.Bool.{Bool, true, false}
+use Rattle.std.proofs.Common.{ℕ, ◌≤◌, Bool, true, false}
 use Rattle.lines.specs.Line.{choose}
 
 pub choose_most : (m : ℕ) (b : Bool) (x y : ℕ) → x ≤ m → y ≤ m → choose b x y ≤ m

@@ -1,15 +1,10 @@
 -- Runs of digits: what `run` counts at a place of a text, and the lines of a text that starts with
 -- a run. A digit is no LF, so a run stays inside one line; what ends the run tells whether that
 -- line is one. Assumes nothing.
-use Prim.Native.Nat.{ℕ, suc, ◌≤◌, ◌<◌, ◌+◌, ◌*◌, ◌%◌}
-use mathlib.Core.Path.{◌≡◌, refl, ap, ◌∙◌}
-use mathlib.Core.Bool.{Bool, true, false, ◌&&◌}
-use mathlib.Core.List.{List, [], ◌∷◌, ◌++◌}
+use Rattle.std.proofs.Common.{ℕ, suc, ◌≤◌, ◌<◌, ◌+◌, ◌*◌, ◌%◌, ◌≡◌, refl, ap, ◌∙◌, Bool, true, false, ◌&&◌}
+use Rattle.std.proofs.Common.{List, [], ◌∷◌, ◌++◌, arith, length, leb, ltb, eqb, leb-true, leb-false, ne_eqb}
+use Rattle.std.proofs.Common.{lt-ltb, ltb-true}
 use Rattle.std.proofs.Math.Option.{Option, none, some}
-use native.Mathlib.Omega.{arith}
-use lib.ListN.{length}
-use lib.Dec.{leb, ltb, eqb}
-use borrow.Author.Tests.{leb-true, leb-false, ne_eqb, lt-ltb, ltb-true}
 use Rattle.lines.specs.Line.{choose, digit, Raw, full, open_ended, before, lines, pair, bytes, frame}
 use Rattle.lines.specs.Line.{characters, LF}
 use Rattle.lines.specs.code.Characters.{run}

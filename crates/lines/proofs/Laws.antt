@@ -1,16 +1,13 @@
 -- What a caller may rely on: what `answer` is at each place where the scan of a run of digits can
 -- stop, what a found line says of the text, and that bytes and numbers are read as `bytes` and
 -- `number` have them. Assumes nothing.
-use Prim.Native.Nat.{ℕ, suc, ◌≤◌, ◌<◌, ◌-◌, ◌+◌, ◌*◌, ◌%◌}
-use mathlib.Core.Path.{◌≡◌, refl, sym, ap, ◌∙◌}
-use mathlib.Core.Bool.{Bool, true, false}
-use mathlib.Core.List.{List, [], ◌∷◌, ◌++◌, append-nil}
-use mathlib.Core.Option.{Option, none, some}
-use native.Mathlib.Omega.{arith}
-use lib.ListN.{length, take, drop, get_or, length-append, length-take, length-drop, drop_of_length-le}
-use lib.Dec.{eqb, ltb}
-use lib.Seq.{drop-cons, drop-append_seam, drop-append-add, take-append_seam, drop-drop, drop-length, take-nil}
-use borrow.Author.Tests.{le-leb, lt-leb, eqb-true, ne_eqb, ltb-true, ltb-false}
+use Rattle.std.proofs.Common.{ℕ, suc, ◌≤◌, ◌<◌, ◌-◌, ◌+◌, ◌*◌, ◌%◌, ◌≡◌, refl, sym, ap, ◌∙◌, Bool, true}
+use Rattle.std.proofs.Common.{false, List, [], ◌∷◌, ◌++◌, append-nil, arith, length, take, drop, get_or}
+use Rattle.std.proofs.Common.{length-append, length-take, length-drop, drop_of_length-le, eqb, ltb, drop-cons}
+use Rattle.std.proofs.Common.{drop-drop, le-leb, eqb-true, ne_eqb, ltb-true, ltb-false}
+use Rattle.std.proofs.lemmas.Bool.{lt-leb}
+use Rattle.std.proofs.Math.Option.{Option, none, some}
+use Rattle.std.proofs.Math.Seq.{drop-append_seam, drop-append-add, take-append_seam, drop-length, take-nil}
 use Rattle.lines.specs.Line.{choose, digit, Raw, full, open_ended, before, lines, bytes, frame}
 use Rattle.lines.specs.Line.{characters, LF, seen, Form, strict_form, answer_of, answer}
 use Rattle.lines.specs.code.Characters.{run, part}

@@ -4,6 +4,7 @@ use Rattle.std.proofs.Common.{ℕ, ◌+◌, ◌≡◌, eqb, Option, Some, None, 
 use denote.Enum.Declared.{tag_of}
 use Rattle.lines.specs.contracts.Refusal.{the_type}
 use Rattle.lines.specs.declared.Refusal.{Refusal}
+use Rattle.lines.specs.declared.RefusedAt.{RefusedAt}
 use Rattle.lines.specs.declared.Refusal.TheVariants.{NotALine, WrongFrame, OutOfRange, Incomplete, TermOverRoom, TextOverRoom, NoDerivation}
 use Rattle.lines.specs.declared.Refusal.TheVariants.{CellsOverRoom, NodesOverRoom, ArcsOverRoom, MeetingsOverRoom, SliceTooShort, ShapeBroken}
 use Rattle.lines.specs.Line.{choose, refusal}
@@ -63,6 +64,10 @@ of_number_back ShapeBroken = refl
 
 pub number_once : (r s : Refusal) → number r ≡ number s → r ≡ s
 number_once r s same = sym (of_number_back r) ∙ ap of_number same ∙ of_number_back s
+
+-- and its line with it
+pub refused_once : (e f : RefusedAt) → number e.refusal ≡ number f.refusal → e.line ≡ f.line → e ≡ f
+refused_once e f numbers lines = rw (number_once e.refusal f.refusal numbers, lines)
 
 -- what a test comes to, by the number that it tells
 of_told : ℕ → Result ⊤ Refusal

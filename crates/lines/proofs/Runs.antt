@@ -1,11 +1,12 @@
 -- A run of digits ends where a search for a character that is no digit stops: at the first such character, or at the text's
 -- end. Assumes nothing.
-use Rattle.std.proofs.Common.{ℕ, ◌≡◌, suc, ◌+◌, ◌-◌, ◌≤◌, Bool, true, false, cond, not, List, map, length, take, drop, leb, ltb, Option, Some, None, unwrap_or, refl, sym, ◌∙◌, arith, length-drop}
+use Rattle.std.proofs.Common.{ℕ, ◌≡◌, suc, ◌+◌, ◌-◌, ◌≤◌, Bool, true, false, cond, not, List, map, length}
+use Rattle.std.proofs.Common.{take, drop, leb, ltb, Option, Some, None, unwrap_or, refl, sym, ◌∙◌, arith}
+use Rattle.std.proofs.Common.{length-drop, ltb-false}
 use Rattle.std.specs.List.{position, position_or_len}
 use Rattle.std.proofs.Math.Seq.{take-length}
 use Rattle.std.proofs.lemmas.List.Recursion.{is_position_or_len}
 use Rattle.std.proofs.lemmas.List.Sums.{prefix_len-le-length}
-use borrow.Author.Tests.{ltb-false}
 use Rattle.lines.specs.Line.{choose, digit}
 use Rattle.lines.specs.code.Characters.{run}
 

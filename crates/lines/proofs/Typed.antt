@@ -1,10 +1,8 @@
 -- Texts as document 01 writes its case A, with `/` for LF, and with `;` for CR: how the cases of the crates above are
 -- typed. Assumes nothing.
-use Prim.Native.Nat.{ℕ}
+use Rattle.std.proofs.Common.{ℕ, List, [], ◌∷◌, eqb}
 use Prim.Native.Char.{code}
 use Prim.Native.String.{String, [] as no-character, ◌∷◌ as ◌before◌}
-use mathlib.Core.List.{List, [], ◌∷◌}
-use lib.Dec.{eqb}
 use Rattle.lines.specs.Line.{choose, LF}
 
 -- the character that one stands for, and the characters of a text

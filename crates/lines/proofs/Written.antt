@@ -1,14 +1,11 @@
 -- A text of frames reads back as those frames, and no other text does. A digit and its character determine
 -- each other, so bytes and their hexadecimal do, and with them a frame and its line; the text follows line by
 -- line. Assumes nothing.
-use Prim.Native.Nat.{ℕ, ◌<◌, ◌-◌, ◌+◌, ◌*◌, ◌/◌, ◌%◌}
-use mathlib.Core.Path.{◌≡◌, refl, ap, ◌∙◌}
-use mathlib.Core.Bool.{Bool, true, false, ◌&&◌}
-use mathlib.Core.List.{List, [], ◌∷◌, ◌++◌, map}
-use mathlib.Core.Option.{some}
-use native.Mathlib.Omega.{arith}
-use lib.Dec.{leb, ltb, eqb}
-use borrow.Author.Tests.{le-leb, lt-leb, leb-true, ltb-true, ltb-false, lt-ltb, le-ltb}
+use Rattle.std.proofs.Common.{ℕ, ◌<◌, ◌-◌, ◌+◌, ◌*◌, ◌/◌, ◌%◌, ◌≡◌, refl, ap, ◌∙◌, Bool, true, false, ◌&&◌}
+use Rattle.std.proofs.Common.{List, [], ◌∷◌, ◌++◌, map, arith, leb, ltb, eqb, le-leb, leb-true, ltb-true}
+use Rattle.std.proofs.Common.{ltb-false, lt-ltb, le-ltb}
+use Rattle.std.proofs.lemmas.Bool.{lt-leb}
+use Rattle.std.proofs.Math.Option.{some}
 use Rattle.lines.specs.Line.{choose, digit, character, pair, bytes, hex, LF}
 use Rattle.lines.specs.Line.{Raw, full, open_ended, before, lines, frame, text}
 use Rattle.lines.specs.Line.{Bytes, no_bytes, byte_first, Frames, no_frames, frame_first}

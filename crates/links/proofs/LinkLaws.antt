@@ -1,12 +1,12 @@
 -- Where an arc leads, one law for each way that the code tells it, and the linking of the arcs from some number
 -- on: a turn links one of them, and what is done, with the rest of the arcs, is the whole answer. Assumes
 -- nothing.
-use Rattle.std.proofs.Common.{ℕ, zero, suc, ◌+◌, ◌*◌, ◌-◌, ◌≤◌, ◌<◌, ◌≡◌, refl, sym, ◌∙◌, Bool, true, false, ◌&&◌, ◌||◌}
-use Rattle.std.proofs.Common.{List, ◌∷◌, Some, None, leb, ltb, eqb, arith, zero-add, add-one, eq-eqb, ne_eqb, lt-ltb, le-ltb}
-use Rattle.std.proofs.Common.{le-leb}
-use mathlib.Core.Bool.{and-true, or-true, and_assoc}
-use native.Mathlib.Nat.{sub-zero}
-use borrow.Author.Tests.{lt-leb}
+use Rattle.std.proofs.Common.{ℕ, zero, suc, ◌+◌, ◌*◌, ◌-◌, ◌≤◌, ◌<◌, ◌≡◌, refl, sym, ◌∙◌, Bool, true, false}
+use Rattle.std.proofs.Common.{◌&&◌, ◌||◌, List, ◌∷◌, Some, None, leb, ltb, eqb, arith, zero-add, add-one}
+use Rattle.std.proofs.Common.{eq-eqb, ne_eqb, lt-ltb, le-ltb, le-leb}
+use Rattle.std.proofs.lemmas.Bool.{lt-leb}
+use Rattle.std.proofs.Math.Bool.{and-true, or-true, and_assoc}
+use Rattle.std.proofs.Math.Nat.{sub-zero}
 use Rattle.lines.specs.Line.{choose}
 use Rattle.lines.proofs.Choosing.{choose_most}
 use Rattle.frames.specs.TableFrame.{term_room}

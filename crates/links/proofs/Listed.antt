@@ -4,8 +4,8 @@ use Rattle.std.proofs.Common.{ℕ, zero, suc, ◌+◌, ◌*◌, ◌-◌, ◌≤�
 use Rattle.std.proofs.Common.{arith, add-zero, zero-add, length, get_or, set, take, drop, length-take-le, get_or-append-add}
 use Rattle.std.proofs.Common.{get_or-set_other, lt-ltb}
 use Rattle.std.proofs.lemmas.List.Edits.{sets, sets-eq}
-use lib.ListN.{get_or-append}
-use lib.Seq.{length-sets}
+use Rattle.std.proofs.Math.ListN.{get_or-append}
+use Rattle.std.proofs.Math.Seq.{length-sets}
 use Rattle.rules.specs.Track.{Pair, pair}
 use Rattle.rules.specs.Run.{arc_room, meeting_room}
 use Rattle.control.specs.words.Words.{track_words, track_word, meetings_from}

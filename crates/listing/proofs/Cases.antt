@@ -3,8 +3,8 @@
 -- A, with `/` for LF, and with `;` for CR. Case A is document 01's own text; every other output comes from the independent
 -- program. Assumes nothing.
 use Prim.Native.String.{String, ◌++◌}
-use mathlib.Core.Path.{◌≡◌, refl}
-use mathlib.Core.List.{List, [], ◌∷◌, map, ◌++◌ as ◌++ᴸ◌}
+use Rattle.std.proofs.Common.{◌≡◌, refl, List, [], ◌∷◌, map}
+use mathlib.Core.List.{◌++◌ as ◌++ᴸ◌}
 use Rattle.lines.specs.Line.{digit, before, lines, pair, bytes, frame, characters, number_from, character}
 use Rattle.lines.specs.Line.{hex, text, two}
 use Rattle.lines.specs.Judging.{at_end, at_line, judged_from}

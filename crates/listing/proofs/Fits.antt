@@ -1,17 +1,13 @@
 -- A listing is at most 131,086 bytes. A step's line has at most 7 characters, its LF with it, and the
 -- shortest line that asks for a step, `20 llll` and LF, has 7: so the steps' lines are no longer than the
 -- script. The status is 5 more, a refusal 9, and the track is within its room. Assumes nothing.
-use Prim.Native.Nat.{ℕ, ◌+◌, ◌≤◌}
-use mathlib.Core.Path.{◌≡◌, refl, sym, ap}
-use mathlib.Core.Bool.{Bool, true, false}
-use mathlib.Core.List.{List, [], ◌∷◌, ◌++◌, map}
-use mathlib.Core.Option.{Option, none, some}
-use native.Mathlib.Omega.{arith}
-use native.Mathlib.Nat.{sub-zero}
-use lib.ListN.{length, drop, replicate, length-append, length-replicate}
-use lib.Dec.{leb}
-use lib.Seq.{sets, sets-eq, length-sets, take-append_seam}
-use borrow.Author.Tests.{le-leb, leb-true}
+use Rattle.std.proofs.Common.{ℕ, ◌+◌, ◌≤◌, ◌≡◌, refl, sym, ap, Bool, true, false, List, [], ◌∷◌, ◌++◌, map}
+use Rattle.std.proofs.Common.{arith, length, drop, replicate, length-append, leb, le-leb, leb-true}
+use Rattle.std.proofs.lemmas.List.{length-replicate}
+use Rattle.std.proofs.lemmas.List.Edits.{sets, sets-eq}
+use Rattle.std.proofs.Math.Option.{Option, none, some}
+use Rattle.std.proofs.Math.Nat.{sub-zero}
+use Rattle.std.proofs.Math.Seq.{length-sets, take-append_seam}
 use Rattle.lines.specs.Line.{choose, LF, Raw, full, lines, text, two}
 use Rattle.lines.specs.Judging.{Judged}
 use Rattle.lines.specs.Judging as Judging

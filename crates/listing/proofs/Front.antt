@@ -2,15 +2,10 @@
 -- within its room, the table's text stays as it is, and a script that is cut is over its room both whole and
 -- cut. Where it does not, the table's text is over its room both whole and cut, and the answer is 6 alone.
 -- Assumes nothing.
-use Prim.Native.Nat.{ℕ, ◌≤◌, ◌<◌}
-use mathlib.Core.Path.{◌≡◌, refl, sym, ap, ◌∙◌}
-use mathlib.Core.Bool.{Bool, true, false}
-use mathlib.Core.List.{List}
-use native.Mathlib.Omega.{arith}
-use lib.ListN.{length, take, drop, length-drop}
-use lib.Dec.{leb}
-use lib.Seq.{length-take-le, take_all, take-take}
-use borrow.Author.Tests.{lt-leb, leb-true, leb-false}
+use Rattle.std.proofs.Common.{ℕ, ◌≤◌, ◌<◌, ◌≡◌, refl, sym, ap, ◌∙◌, Bool, true, false, List, arith, length}
+use Rattle.std.proofs.Common.{take, drop, length-drop, leb, length-take-le, take_all, take-take, leb-true}
+use Rattle.std.proofs.Common.{leb-false}
+use Rattle.std.proofs.lemmas.Bool.{lt-leb}
 use Rattle.lines.specs.Line.{lines}
 use Rattle.lines.specs.Judging.{Judged, accepted, refused}
 use Rattle.tables.specs.Table.{Sofar, text_room, judged}

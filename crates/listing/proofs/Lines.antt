@@ -2,15 +2,11 @@
 -- a status's line go by their bytes. A copied text is put where all its characters are, or where the slice has no
 -- room for more of them; so a track is told that was saved within its room, and refusal 12 for any other. Assumes
 -- nothing.
-use Prim.Native.Nat.{ℕ, zero, suc, ◌≤◌, ◌<◌}
-use mathlib.Core.Path.{◌≡◌, refl, sym, ap, ◌∙◌}
-use mathlib.Core.Bool.{Bool, true, false}
-use mathlib.Core.List.{List}
-use native.Mathlib.Omega.{arith}
-use lib.ListN.{length, take}
-use lib.Seq.{sets, sets-eq, length-sets, take_at}
-use lib.Dec.{leb}
-use borrow.Author.Tests.{leb-true, leb-false, le-leb, lt-leb}
+use Rattle.std.proofs.Common.{ℕ, zero, suc, ◌≤◌, ◌<◌, ◌≡◌, refl, sym, ap, ◌∙◌, Bool, true, false, List, arith}
+use Rattle.std.proofs.Common.{length, take, take_at, leb, leb-true, leb-false, le-leb}
+use Rattle.std.proofs.lemmas.Bool.{lt-leb}
+use Rattle.std.proofs.lemmas.List.Edits.{sets, sets-eq}
+use Rattle.std.proofs.Math.Seq.{length-sets}
 use Rattle.lines.specs.Line.{choose}
 use Rattle.spelling.specs.words.Puts.{Puts}
 use Rattle.writing.specs.words.Slice.{Put, with_slice, written}

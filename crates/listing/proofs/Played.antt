@@ -1,13 +1,9 @@
 -- The lines of a script over the words of a run come to what document 01 says of them, from the state that the words
 -- hold. Each line's answer is document 01's, and the words behind it hold the state behind it (`line_answers`); so the
 -- events, the refusal and the words go on together, line by line. Assumes nothing.
-use Prim.Native.Nat.{ℕ, zero, suc, ◌+◌}
-use mathlib.Core.Path.{◌≡◌, refl, ap, ◌∙◌}
-use mathlib.Core.List.{List, [], ◌∷◌}
-use mathlib.Core.Option.{Option, none, some}
-use native.Mathlib.Omega.{arith}
-use lib.ListN.{length}
-use lib.Seq.{length-sets}
+use Rattle.std.proofs.Common.{ℕ, zero, suc, ◌+◌, ◌≡◌, refl, ap, ◌∙◌, List, [], ◌∷◌, arith, length}
+use Rattle.std.proofs.Math.Option.{Option, none, some}
+use Rattle.std.proofs.Math.Seq.{length-sets}
 use Rattle.lines.specs.Line.{Raw, text}
 use Rattle.desk_lines.specs.DeskLine.{desk_frame}
 use Rattle.scripts.specs.Script.{most, Asked, address, asked}

@@ -1,12 +1,11 @@
 -- The loop over a script's lines: what the whole script comes to is what the lines from the cursor on come to,
 -- behind the events so far. One law for the start, one for the way out and one for a turn. Assumes nothing.
-use Prim.Native.Nat.{ℕ, ◌+◌, ◌*◌, ◌≤◌, ◌<◌}
-use mathlib.Core.Path.{◌≡◌, refl, sym, ap, ◌∙◌}
-use mathlib.Core.List.{List, [], ◌∷◌, ◌++◌, map, append_assoc, append-nil, map-append}
-use mathlib.Core.Option.{Option, none, some}
-use native.Mathlib.Omega.{arith}
-use lib.ListN.{length, drop, replicate}
-use lib.Seq.{sets, length-sets}
+use Rattle.std.proofs.Common.{ℕ, ◌+◌, ◌*◌, ◌≤◌, ◌<◌, ◌≡◌, refl, sym, ap, ◌∙◌, List, [], ◌∷◌, ◌++◌, map}
+use Rattle.std.proofs.Common.{append_assoc, append-nil, arith, length, drop, replicate}
+use Rattle.std.proofs.lemmas.List.{map-append}
+use Rattle.std.proofs.lemmas.List.Edits.{sets}
+use Rattle.std.proofs.Math.Option.{Option, none, some}
+use Rattle.std.proofs.Math.Seq.{length-sets}
 use Rattle.lines.specs.Line.{Raw, characters, seen, answer_of, lines, text, hex}
 use Rattle.lines.specs.declared.Line.TheVariants.{Found}
 use Rattle.desk_lines.specs.DeskLine.{strict, desk_frame, desk_answer}

@@ -1,11 +1,9 @@
 -- What is told of a script over the columns of a checked table is its listing. The words' lines come to what the lines
 -- do, so the events are those of the steps, the status is the control's, and the text that is saved is the track's;
 -- frame by frame they are told alike. Assumes nothing.
-use Prim.Native.Nat.{ℕ}
-use mathlib.Core.Path.{◌≡◌, refl, sym, ap, ◌∙◌}
-use mathlib.Core.List.{List, [], ◌∷◌, ◌++◌, map, append_assoc}
-use lib.ListN.{length, replicate, length-replicate}
-use lib.Dec.{leb}
+use Rattle.std.proofs.Common.{ℕ, ◌≡◌, refl, sym, ap, ◌∙◌, List, [], ◌∷◌, ◌++◌, map, append_assoc, length}
+use Rattle.std.proofs.Common.{replicate, leb}
+use Rattle.std.proofs.lemmas.List.{length-replicate}
 use Rattle.lines.specs.Line.{choose, lines, text}
 use Rattle.lines.specs.Judging.{accepted}
 use Rattle.scripts.specs.Script.{most}

@@ -1,12 +1,9 @@
 -- The listing as a whole: a run's parts are put behind one another, a script goes by its room, and an input by
 -- what its table is judged. One law for each way out of the code. Assumes nothing.
-use Prim.Native.Nat.{ℕ, zero, suc, ◌+◌, ◌-◌, ◌≤◌, ◌<◌}
-use mathlib.Core.Path.{◌≡◌, sym, ap, ap₂, ◌∙◌}
-use mathlib.Core.List.{List, [], ◌∷◌, map}
-use native.Mathlib.Omega.{arith}
-use lib.ListN.{length, get_or, take, drop, length-drop}
-use lib.Seq.{sets, take_all}
-use borrow.Author.Tests.{le-leb, lt-leb}
+use Rattle.std.proofs.Common.{ℕ, zero, suc, ◌+◌, ◌-◌, ◌≤◌, ◌<◌, ◌≡◌, sym, ap, ap₂, ◌∙◌, List, [], ◌∷◌, map}
+use Rattle.std.proofs.Common.{arith, length, get_or, take, drop, length-drop, take_all, le-leb}
+use Rattle.std.proofs.lemmas.Bool.{lt-leb}
+use Rattle.std.proofs.lemmas.List.Edits.{sets}
 use Rattle.lines.specs.Line.{lines, text, hex, two}
 use Rattle.lines.specs.Judging.{Judged, accepted, refused}
 use Rattle.tables.specs.Table.{Sofar, judged}

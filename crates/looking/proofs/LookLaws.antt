@@ -4,7 +4,7 @@
 use Rattle.std.proofs.Common.{ℕ, zero, suc, ◌+◌, ◌*◌, ◌-◌, ◌≤◌, ◌<◌, min, ◌≡◌, refl, ap, ◌∙◌, Bool}
 use Rattle.std.proofs.Common.{true, false, List, arith, zero-add, add-one, eqb, lt-ltb}
 use Rattle.std.proofs.Common.{le-ltb}
-use native.Mathlib.Nat.{sub-zero}
+use Rattle.std.proofs.Math.Nat.{sub-zero}
 use Rattle.lines.specs.Line.{choose}
 use Rattle.control.specs.words.Words.{track_word}
 use Rattle.columns.specs.words.Columns.{look}

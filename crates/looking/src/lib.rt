@@ -10,7 +10,8 @@ use plans::{EXTERNAL_WORD, PARALLEL_WORD, Plan, around_of};
 use rules::ARC_ROOM;
 use scripts::Digits;
 
-// The digit at a place of an address, 0 behind its last.
+// The digit at a place of an address, 0 behind its last. How many digits count stands beside them, here and wherever a step reads
+// them, since C's block of a run has the digits alone.
 pub fn digit_at(at: usize, count: usize, digits: &Digits) -> usize
     ensures { result ≡ spec.digit_at digits.now count at }
 {

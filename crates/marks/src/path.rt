@@ -8,29 +8,29 @@ ghost use Rattle.marks.specs.words.Mark.{event_mark};
 ghost use Rattle.marks.specs.code.Followed as of;
 
 use crate::{event_mark, own_mark};
-use columns::{After, Kinds, after_of, kind_of};
+use columns::{After, Table, after_of, kind_of};
 use frames::TERM_ROOM;
 use kinds::subterms;
 use numbers::byte;
 
 // The mark of the literal at the path that the bytes of the characters spell from byte `from` on, starting at term `root`; 0 where
 // there is none, as a column of marks has it.
-pub fn find(root: usize, chars: &[u8], from: usize, kinds: &Kinds, after: &After) -> u16
-    ensures { result ≡ of.find kinds.now after.now root
+pub fn find(root: usize, chars: &[u8], from: usize, table: &Table) -> u16
+    ensures { result ≡ of.find table.now.kinds table.now.after root
         (drop from (read_bytes chars.now)) }
 {
     let count = chars.len() / 2;
     let mut term = root;
     for i in from..count {
         let digit = byte(chars, i);
-        let below = subterms(kind_of(term, kinds));
+        let below = subterms(kind_of(term, &table.kinds));
         if below == 0 {
             return 0;
         }
         term = match digit {
             1 if below == 2 => term + 1,
             1 => return event_end(term, i + 1 == count),
-            2 => last_subterm(term, below, after),
+            2 => last_subterm(term, below, &table.after),
             _ => return 0,
         };
     }

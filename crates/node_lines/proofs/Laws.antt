@@ -1,16 +1,11 @@
 -- Lines where a node is due. Their bytes meet 2 where they do not form a node's frame, and then what their numbers meet, so bytes
 -- that meet no refusal are a node's; the tests on the characters say the same. Behind some nodes' lines one more is read, and
 -- its mark stands in the column; and the lines are document 01's. Assumes nothing.
-use Prim.Native.Nat.{ℕ, suc, ◌+◌, ◌/◌, ◌≤◌, ◌<◌}
-use mathlib.Core.Path.{◌≡◌, refl, sym, ap, ◌∙◌}
-use mathlib.Core.Bool.{Bool, true, false}
-use mathlib.Core.List.{List, [], ◌∷◌, ◌++◌}
-use native.Mathlib.Omega.{arith}
-use native.Mathlib.Nat.{add-zero}
-use lib.ListN.{length, drop, get_or, set, replicate, length-drop}
-use lib.Dec.{leb}
-use lib.Seq.{sets}
-use borrow.Author.Tests.{lt-ltb, le-ltb, le-leb, lt-leb}
+use Rattle.std.proofs.Common.{ℕ, suc, ◌+◌, ◌/◌, ◌≤◌, ◌<◌, ◌≡◌, refl, sym, ap, ◌∙◌, Bool, true, false, List}
+use Rattle.std.proofs.Common.{[], ◌∷◌, ◌++◌, arith, add-zero, length, drop, get_or, set, replicate}
+use Rattle.std.proofs.Common.{length-drop, leb, lt-ltb, le-ltb, le-leb}
+use Rattle.std.proofs.lemmas.Bool.{lt-leb}
+use Rattle.std.proofs.lemmas.List.Edits.{sets}
 use Rattle.lines.specs.Line.{lines, number_at}
 use Rattle.numbers.specs.code.Numbers.{read_bytes, byte_at}
 use Rattle.numbers.proofs.Laws.{read_length}

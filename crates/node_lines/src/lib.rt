@@ -12,7 +12,7 @@ ghost use Rattle.opening.specs.Answers.{lines_told};
 ghost use Rattle.node_lines.specs.code.Nodes as of;
 ghost use Rattle.rules.specs.Run.{node_room};
 
-use columns::{After, Kinds, Roots};
+use columns::Table;
 use finding::mark_of;
 use frames::PATH_ROOM;
 use graphs::NODE_FRAME;
@@ -34,15 +34,13 @@ pub fn read_nodes(
     from: usize,
     count: usize,
     definitions: usize,
-    kinds: &Kinds,
-    after: &After,
-    roots: &Roots,
+    table: &Table,
     labels: &mut Column,
 ) -> Result<usize, RefusedAt>
     requires { count ≤ node_room }
     ensures value { lines_told result ≡ (of.nodes_read definitions count text.now from).answer }
     ensures labels_after { labels.new ≡ sets labels.old 0
-        (marks_of kinds.now after.now roots.now 0
+        (marks_of table.now.kinds table.now.after table.now.roots 0
         (of.nodes_read definitions count text.now from).said) }
 {
     let mut at = from;
@@ -52,7 +50,7 @@ pub fn read_nodes(
         let Span { end, next } = wanted(found).map_err(|refusal| refusal.at(line))?;
         let chars = characters(text, at, end);
         node_refusal(chars, definitions).map_err(|refusal| refusal.at(line))?;
-        labels[k] = mark_of(k, chars, kinds, after, roots);
+        labels[k] = mark_of(k, chars, table);
         at = next;
     }
     Ok(at)

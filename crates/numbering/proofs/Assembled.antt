@@ -1,11 +1,11 @@
 -- A graph by its numbers, put together. The walk numbers each reference once, so there are no more numbers than
 -- references, and no number passes how many there are; pairs that are put, read back and put again in order
 -- leave only the last words. Assumes nothing.
-use Rattle.std.proofs.Common.{ℕ, zero, suc, min, ◌+◌, ◌*◌, ◌≤◌, ◌<◌, ◌≡◌, refl, ap, ◌∙◌, Bool, true, false, List, [], ◌∷◌}
-use Rattle.std.proofs.Common.{arith, length, get_or, set, replicate, set-set, ltb, eqb, ltb-true}
+use Rattle.std.proofs.Common.{ℕ, zero, suc, min, ◌+◌, ◌*◌, ◌≤◌, ◌<◌, ◌≡◌, refl, ap, ◌∙◌, Bool, true, false}
+use Rattle.std.proofs.Common.{List, [], ◌∷◌, arith, length, get_or, set, replicate, set-set, ltb, eqb}
+use Rattle.std.proofs.Common.{ltb-true}
+use Rattle.std.proofs.lemmas.List.{get_or-replicate, set_comm}
 use Rattle.std.proofs.lemmas.List.Edits.{sets}
-use lib.ListN.{get_or-replicate}
-use lib.Seq.{set_comm}
 use Rattle.lines.specs.Line.{choose}
 use Rattle.columns.specs.words.Columns.{look}
 use Rattle.rules.specs.Track.{Pair}

@@ -1,10 +1,5 @@
 -- What a digit counts, by arithmetic alone, is what it counts. Assumes nothing.
-use Prim.Native.Nat.{ℕ, ◌<◌, ◌-◌, ◌+◌}
-use mathlib.Core.Path.{◌≡◌, refl}
-use mathlib.Core.Bool.{Bool, true, false, ◌&&◌}
-use native.Mathlib.Omega.{arith}
-use lib.Dec.{leb}
-use borrow.Author.Tests.{leb-true}
+use Rattle.std.proofs.Common.{ℕ, ◌<◌, ◌-◌, ◌+◌, ◌≡◌, refl, Bool, true, false, ◌&&◌, arith, leb, leb-true}
 use Rattle.lines.specs.Line.{choose, digit}
 use Rattle.desk_lines.specs.DeskLine.{small}
 use Rattle.numbers.specs.code.Numbers.{value}

@@ -1,13 +1,13 @@
 -- What a caller may rely on: the bytes that characters stand for, two by two, are as many as there are pairs, each is the one
 -- that is read, and up to eight of them make the number that is read. Of a line's characters they are its bytes.
 -- Assumes nothing.
-use Rattle.std.proofs.Common.{ℕ, zero, suc, ◌+◌, ◌-◌, ◌*◌, ◌/◌, ◌%◌, ◌≤◌, ◌<◌, ◌≡◌, List, [], ◌∷◌, ◌++◌, map, length, take, drop, get_or, refl, sym, ap, ◌∙◌, arith}
+use Rattle.std.proofs.Common.{ℕ, zero, suc, ◌+◌, ◌-◌, ◌*◌, ◌/◌, ◌%◌, ◌≤◌, ◌<◌, ◌≡◌, List, [], ◌∷◌, ◌++◌, map}
+use Rattle.std.proofs.Common.{length, take, drop, get_or, refl, sym, ap, ◌∙◌, arith, zero-add, suc-add}
 use Rattle.std.proofs.Math.ListN.{get_or-eq_default}
 use Rattle.std.proofs.Math.Option.{some}
 use Rattle.lines.specs.Line.{number, number_from, bytes, digit}
 use Rattle.lines.proofs.Digits.{pair_some}
 use Rattle.numbers.specs.code.Numbers.{read_bytes, byte_at, byte_of, number_of}
-use native.Mathlib.Nat.{zero-add, suc-add}
 use Rattle.desk_lines.specs.DeskLine.{small}
 use Rattle.numbers.proofs.Digits.{value_digit, value_small}
 

@@ -1,6 +1,6 @@
 // What is offered, as a value: whether τ and ✓ are, which events, and whether τ is by the plain rules; what a term offers
-// by its own kind, what two sides offer together, and ✓ told as τ. No words are read. It relies on sets of events, and on the numbers that a plan has for
-// kinds.
+// by its own kind, what two sides offer together, and ✓ told as τ. No words are read. It relies on sets of events, and on the
+// numbers that a plan has for kinds.
 #![tactic(auto)]
 
 ghost use Rattle.std.specs.Prelude.{◌≡◌};

@@ -2,9 +2,9 @@
 -- it makes. Of a term the two subterms have the numbers behind its own, up to the second and up to the end, so its
 -- calls are no more than its numbers; of a control the two sides have fewer cells together than are left. Assumes
 -- nothing.
-use Rattle.std.proofs.Common.{ℕ, zero, suc, ◌+◌, ◌*◌, ◌-◌, ◌≤◌, ◌<◌, ◌≡◌, refl, Bool, true, false, not, List, arith}
-use Rattle.std.proofs.Common.{ltb, eqb, ltb-false}
-use borrow.Author.Tests.{eqb-false}
+use Rattle.std.proofs.Common.{ℕ, zero, suc, ◌+◌, ◌*◌, ◌-◌, ◌≤◌, ◌<◌, ◌≡◌, refl, Bool, true, false, not, List}
+use Rattle.std.proofs.Common.{arith, ltb, eqb, ltb-false}
+use Rattle.std.proofs.lemmas.Bool.{eqb-false}
 use Rattle.lines.specs.Line.{choose}
 use Rattle.lines.proofs.Choosing.{choose_most}
 use Rattle.frames.specs.TableFrame.{term_room}

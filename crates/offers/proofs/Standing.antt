@@ -2,10 +2,10 @@
 -- around it: by induction on the control along the words that hold it, which tell each side's cells, so that none
 -- lacks any. An untouched term goes by its plan; of a choice or a parallel each side goes on, stepped or not.
 -- Assumes nothing.
-use Rattle.std.proofs.Common.{ℕ, suc, ◌+◌, ◌-◌, ◌≤◌, ◌<◌, ◌≡◌, refl, ap, sym, ◌∙◌, Bool, true, false, ◌&&◌, ◌||◌, not}
-use Rattle.std.proofs.Common.{List, [], ◌∷◌, arith, add-one, eqb, eq-eqb, ne_eqb, eqb-true}
+use Rattle.std.proofs.Common.{ℕ, suc, ◌+◌, ◌-◌, ◌≤◌, ◌<◌, ◌≡◌, refl, ap, sym, ◌∙◌, Bool, true, false, ◌&&◌}
+use Rattle.std.proofs.Common.{◌||◌, not, List, [], ◌∷◌, arith, add-one, eqb, eq-eqb, ne_eqb, eqb-true}
+use Rattle.std.proofs.lemmas.Bool.{eqb-false}
 use Rattle.std.proofs.Math.Option.{Option, none, some}
-use borrow.Author.Tests.{eqb-false}
 use Rattle.frames.specs.TableFrame.{term_room}
 use Rattle.places.specs.Place.{Place}
 use Rattle.columns.specs.words.Columns.{look}

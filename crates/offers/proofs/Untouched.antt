@@ -2,9 +2,9 @@
 -- the plan that holds it, where the levels left reach past the longest path and the end is past its terms. A layout
 -- whose places have at most 64 digits bounds the depth of every term that a plan holds; its terms stand in preorder,
 -- and none past the plan's room. Assumes nothing.
-use Rattle.std.proofs.Common.{ℕ, suc, ◌+◌, ◌-◌, ◌*◌, ◌≤◌, ◌<◌, ◌≡◌, refl, ap, sym, ◌∙◌, Bool, true, false, List, []}
-use Rattle.std.proofs.Common.{◌∷◌, arith, add-one, length, get_or, length-append, ltb, lt-ltb, ltb-true}
-use native.Mathlib.Nat.{mod-eq_of_lt}
+use Rattle.std.proofs.Common.{ℕ, suc, ◌+◌, ◌-◌, ◌*◌, ◌≤◌, ◌<◌, ◌≡◌, refl, ap, sym, ◌∙◌, Bool, true, false}
+use Rattle.std.proofs.Common.{List, [], ◌∷◌, arith, add-one, length, get_or, length-append, ltb, lt-ltb}
+use Rattle.std.proofs.Common.{ltb-true, mod-eq_of_lt}
 use Rattle.lines.specs.Line.{choose}
 use Rattle.frames.specs.TableFrame.{term_room, path_room, event_room}
 use Rattle.kinds.specs.Kind as Kind

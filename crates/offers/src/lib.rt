@@ -11,14 +11,15 @@ ghost use Rattle.offers.specs.code.Following as code;
 ghost use Rattle.rules.specs.Run.{cell_room};
 ghost use Rattle.offers.specs.words.Told.{Low, Controls, HoldsPart, TellsOffers};
 
-use columns::{Payloads, payload_of};
+use columns::payload_of;
 use control::{
     ENTERED, FIRST_SIDE, FRAME, Nodes, OMEGA, SECOND_SIDE, SIZES, STATE, TERM, UNTOUCHED, word,
 };
 use frames::TERM_ROOM;
 use offering::{Offered, combined, own, settled, unseen};
 use plans::{
-    EXTERNAL_WORD, PARALLEL_WORD, Plan, SEQUENCE_WORD, around_of, kind_of, operand_of, second_of,
+    EXTERNAL_WORD, PARALLEL_WORD, Plan, SEQUENCE_WORD, Show, around_of, kind_of, operand_of,
+    second_of,
 };
 use rules::CELL_ROOM;
 
@@ -31,16 +32,16 @@ const FIRST_CELLS: usize = SIZES + 1;
 const SECOND_CELLS: usize = SIZES + 2;
 
 // What a run at a reference offers.
-pub fn offers(reference: usize, plan: &Plan, sets: &Payloads, nodes: &Nodes) -> Offered
+pub fn offers(reference: usize, show: &Show, nodes: &Nodes) -> Offered
     ensures result_value { seen result ≡
-        code.offered plan.now sets.now nodes.now reference }
+        code.offered show.now.plan show.now.table.payloads nodes.now reference }
     ensures tells_offers { (l : Layout) (P : Process) → Low l
-        → Controls l plan.now sets.now nodes.now reference P → TellsOffers result P }
+        → Controls l show.now.plan show.now.table.payloads nodes.now reference P → TellsOffers result P }
 {
     if reference == 0 {
         unseen(true, false)
     } else {
-        offers_at(reference, 0, 0, CELL_ROOM, plan, sets, nodes)
+        offers_at(reference, 0, 0, CELL_ROOM, show, nodes)
     }
 }
 
@@ -50,48 +51,39 @@ pub fn offers_of_part(
     reference: usize,
     term: usize,
     bound: usize,
-    plan: &Plan,
-    sets: &Payloads,
+    show: &Show,
     nodes: &Nodes,
 ) -> Offered
-    ensures result_value { seen result ≡ code.at cell_room plan.now sets.now nodes.now
+    ensures result_value { seen result ≡ code.at cell_room show.now.plan show.now.table.payloads nodes.now
         cell_room reference term bound }
     ensures tells_offers { (l : Layout) (P : Process) → Low l
-        → HoldsPart l plan.now sets.now nodes.now reference term bound P
+        → HoldsPart l show.now.plan show.now.table.payloads nodes.now reference term bound P
         → TellsOffers result P }
 {
-    offers_at(reference, term, bound, CELL_ROOM, plan, sets, nodes)
+    offers_at(reference, term, bound, CELL_ROOM, show, nodes)
 }
 
 // What is offered by what stands at reference n, inside sequences up to a bound; at reference 0 by a side that
 // has not stepped, of term t. At most `left` cells are followed: of an entered choice or parallel, one and those
 // that its words tell of each side, and no side where these are more.
-fn offers_at(
-    n: usize,
-    t: usize,
-    bound: usize,
-    left: usize,
-    plan: &Plan,
-    sets: &Payloads,
-    nodes: &Nodes,
-) -> Offered
+fn offers_at(n: usize, t: usize, bound: usize, left: usize, show: &Show, nodes: &Nodes) -> Offered
     ensures { (f : ℕ) → left ≤ f → seen result ≡
-        code.at f plan.now sets.now nodes.now left n t bound }
+        code.at f show.now.plan show.now.table.payloads nodes.now left n t bound }
 {
     if left == 0 {
         return unseen(false, false);
     }
     if n == 0 {
-        return offers_of_term(t, TERM_ROOM, OFFER_LEVELS, plan, sets);
+        return offers_of_term(t, TERM_ROOM, OFFER_LEVELS, show);
     }
     let state = word(n, STATE, nodes);
     if ENTERED < state {
         return unseen(false, false);
     }
     let term = word(n, TERM, nodes);
-    let nested = followed(n, term, bound, plan, nodes);
+    let nested = followed(n, term, bound, &show.plan, nodes);
     if state == UNTOUCHED {
-        let resting = offers_of_term(term, TERM_ROOM, OFFER_LEVELS, plan, sets);
+        let resting = offers_of_term(term, TERM_ROOM, OFFER_LEVELS, show);
         return settled(nested, resting);
     }
     let cells = word(n, FIRST_CELLS, nodes);
@@ -99,41 +91,47 @@ fn offers_at(
     if !fits(cells, others, left) {
         return unseen(false, false);
     }
-    let within = inside(n, term, plan, nodes);
+    let within = inside(n, term, &show.plan, nodes);
     let first = word(n, FIRST_SIDE, nodes);
     let second = word(n, SECOND_SIDE, nodes);
-    let l = offers_at(first, first_of(term), within, cells, plan, sets, nodes);
-    let subterm = second_of(term, plan);
-    let r = offers_at(second, subterm, within, others, plan, sets, nodes);
+    let l = offers_at(first, first_of(term), within, cells, show, nodes);
+    let subterm = second_of(term, &show.plan);
+    let r = offers_at(second, subterm, within, others, show, nodes);
     let both = both_ended(first, second, nodes);
-    let sides = combined(kind_of(term, plan), payload_of(term, sets), both, l, r);
+    let sides = combined(
+        kind_of(term, &show.plan),
+        payload_of(term, &show.table.payloads),
+        both,
+        l,
+        r,
+    );
     settled(nested, sides)
 }
 
 // What a term that no step has touched offers, at most `left` levels deep. Its terms stand before `end`: first its
 // own, then those of its first subterm, then those of its second. Where they do not, no subterm is followed, and
 // so none twice.
-fn offers_of_term(t: usize, end: usize, left: usize, plan: &Plan, sets: &Payloads) -> Offered
-    ensures { seen result ≡ code.of_term left plan.now sets.now t end }
+fn offers_of_term(t: usize, end: usize, left: usize, show: &Show) -> Offered
+    ensures { seen result ≡ code.of_term left show.now.plan show.now.table.payloads t end }
 {
     if left == 0 {
         return unseen(false, false);
     }
-    let kind = kind_of(t, plan);
+    let kind = kind_of(t, &show.plan);
     if kind < EXTERNAL_WORD || PARALLEL_WORD < kind {
-        return own(kind, operand_of(t, plan));
+        return own(kind, operand_of(t, &show.plan));
     }
     let first = first_of(t);
-    let second = second_of(t, plan);
+    let second = second_of(t, &show.plan);
     if !in_order(first, second, end) {
         return unseen(false, false);
     }
-    let l = offers_of_term(first, second, left - 1, plan, sets);
+    let l = offers_of_term(first, second, left - 1, show);
     if kind == SEQUENCE_WORD {
         return settled(true, l);
     }
-    let r = offers_of_term(second, end, left - 1, plan, sets);
-    combined(kind, payload_of(t, sets), false, l, r)
+    let r = offers_of_term(second, end, left - 1, show);
+    combined(kind, payload_of(t, &show.table.payloads), false, l, r)
 }
 
 // Whether two sides of so many cells, and the cell that they are sides of, are no more than `left`.

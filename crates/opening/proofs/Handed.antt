@@ -5,7 +5,7 @@ use Rattle.std.proofs.Common.{sym, ap, arith}
 use Rattle.lines.specs.Refusal.{number, told}
 use Rattle.lines.specs.declared.Refusal.{Refusal}
 use Rattle.lines.specs.declared.RefusedAt.{RefusedAt}
-use Rattle.lines.proofs.Refusals.{number_once}
+use Rattle.lines.proofs.Refusals.{number_once, refused_once}
 use Rattle.opening.specs.declared.TrackOpening.{TrackOpening}
 use Rattle.opening.specs.Answers.{Fails, Stops, opened_told, lines_told}
 
@@ -75,7 +75,5 @@ lines_told_once (Ok m) (Err e) same = let z : ◌≡◌ {A = ℕ} 0 1 = cc in ab
 lines_told_once (Err e) (Ok m) same = let z : ◌≡◌ {A = ℕ} 0 1 = cc in absurd (omega arith)
 lines_told_once (Err e) (Err f) same =
     let numbers : number e.refusal ≡ number f.refusal = cc in
-    let refusals = number_once e.refusal f.refusal numbers in
     let line : e.line ≡ f.line = cc in
-    let at : e ≡ f = rw (refusals, line) in
-    ap (λ q. Err q) at
+    ap (λ q. Err q) (refused_once e f numbers line)

@@ -1,17 +1,16 @@
 -- Every door's promise settles its outcome. The promise is the one that the door's contract states (`Learnt`, what a caller is
 -- told), and no copy of it. Where it is an equation of the outcome with what was lent, that it settles is immediate, by one law;
 -- a set, and what is offered, are told by their members, which determine them. Assumes nothing.
-use Prim.Native.Nat.{ℕ}
-use mathlib.Core.Path.{◌≡◌, refl, sym, ap, ◌∙◌}
-use mathlib.Core.Bool.{Bool, true, false, false≢true}
-use Rattle.std.proofs.Common.{List, Option, Result}
+use Rattle.std.proofs.Common.{List, Option, Result, ℕ, ◌≡◌, refl, sym, ap, ◌∙◌, Bool, true, false}
+use Rattle.std.proofs.lemmas.Bool.{false≢true}
 use Rattle.lines.specs.declared.Refusal.{Refusal}
 use Rattle.lines.specs.declared.RefusedAt.{RefusedAt}
 use Rattle.lines.proofs.Refusals.{met_once}
 use Rattle.rules.specs.declared.Event.{Event}
 use Rattle.scripts.proofs.Laws.{step_told_once}
 use Rattle.refusals.proofs.Told.{first_told_once, line_told_once}
-use Rattle.columns.specs.words.Columns.{Columns, all_columns}
+use Rattle.columns.specs.words.Columns.{Columns}
+use Rattle.columns.specs.words.Held.{held}
 use Rattle.tables.specs.declared.TableCounts.{TableCounts}
 use Rattle.tables.specs.Checked.{checked_told}
 use Rattle.tables.proofs.Told.{checked_told_once}
@@ -41,6 +40,8 @@ use Rattle.outcomes.proofs.Settling.{by_equation, both}
 use Rattle.lines.proofs.find_line.Reads as lines-find-line
 use Rattle.lines.proofs.part_of.Reads as lines-part-of
 use Rattle.lines.proofs.wanted.Reads as lines-wanted
+use Rattle.lines.proofs.Refusal.number.Reads as lines-refusal-number
+use Rattle.lines.proofs.Refusal.at.Reads as lines-refusal-at
 use Rattle.desk_lines.proofs.find_desk_line.Reads as desk-lines-find-desk-line
 use Rattle.line_reader.proofs.next_line.Reads as line-reader-next-line
 use Rattle.line_reader.proofs.characters.Reads as line-reader-characters
@@ -88,7 +89,7 @@ one_emptiness s false true p q =
     let (k, stands) = p.some_event refl in absurd (false≢true (sym (q.no_event refl k) ∙ stands))
 
 -- what an answer tells with what stands behind it tells the answer
-pub check_once : (x y : Result TableCounts RefusedAt) {c d : Columns}
+check_once : (x y : Result TableCounts RefusedAt) {c d : Columns}
     → with_columns (checked_told x) c ≡ with_columns (checked_told y) d → x beside c ≡ y beside d
 check_once x y h = both (checked_told_once x y (ap (λ (o : Outcome). o.answer) h)) (ap (λ (o : Outcome). o.columns) h)
 
@@ -132,6 +133,12 @@ lines_part_of_settled = by_equation (λ κ lent x s p. p)
 pub lines_wanted_settled : Settles lines-wanted.Learnt (λ κ x s. x)
 lines_wanted_settled = by_equation (λ κ lent x s p. p)
 
+pub lines_refusal_number_settled : Settles lines-refusal-number.Learnt (λ κ x s. x)
+lines_refusal_number_settled = by_equation (λ κ lent x s p. p)
+
+pub lines_refusal_at_settled : Settles lines-refusal-at.Learnt (λ κ x s. x.refusal beside x.line)
+lines_refusal_at_settled = by_equation (λ κ lent x s p. both p.0 p.1)
+
 pub desk_lines_find_desk_line_settled : Settles desk-lines-find-desk-line.Learnt (λ κ x s. x)
 desk_lines_find_desk_line_settled = by_equation (λ κ lent x s p. p)
 
@@ -164,12 +171,11 @@ pub refusals_table_line_settled : Settles refusals-table-line.Learnt (λ κ x s.
 refusals_table_line_settled κ lent x y s t p q = line_told_once x y (p ∙ sym q)
 
 pub tables_check_settled : Settles tables-check.Learnt
-    (λ κ x s. let (text, (kinds, (payloads, (owners, (after, (roots, _)))))) = s in
-    x beside all_columns kinds.now payloads.now owners.now after.now roots.now)
+    (λ κ x s. let (text, (table, _)) = s in x beside held table.now)
 tables_check_settled κ lent x y s t p q = check_once x y (p ∙ sym q)
 
 pub places_place_settled : Settles places-place.Learnt
-    (λ κ x s. let (literal, (kinds, (owners, (after, (roots, (path, _)))))) = s in x beside path.now)
+    (λ κ x s. let (literal, (table, (path, _))) = s in x beside path.now)
 places_place_settled = by_equation (λ κ lent x s p. both p.0 p.1)
 
 pub sets_has_settled : Settles sets-has.Learnt (λ κ x s. x)
@@ -193,7 +199,7 @@ inputs_table_end_settled = by_equation (λ κ lent x s p. p)
 -- ---- rules
 
 pub plans_lay_out_settled : Settles plans-lay-out.Learnt
-    (λ κ x s. let (terms, (kinds, (payloads, (after, (roots, (plan, _)))))) = s in plan.now)
+    (λ κ x s. let (terms, (table, (plan, _))) = s in plan.now)
 plans_lay_out_settled = by_equation (λ κ lent x s p. p)
 
 pub offers_offers_settled : Settles offers-offers.Learnt (λ κ x s. x)
@@ -215,23 +221,23 @@ pub parts_sides_of_settled : Settles parts-sides-of.Learnt (λ κ x s. x)
 parts_sides_of_settled = by_equation (λ κ lent x s p. p.0)
 
 pub runs_start_settled : Settles runs-start.Learnt
-    (λ κ x s. let (nodes, (track, (counters, _))) = s in nodes.now beside track.now beside counters.now)
+    (λ κ x s. let (run, _) = s in run.now.words.nodes beside run.now.words.track beside run.now.counters)
 runs_start_settled = by_equation (λ κ lent x s p. both p.0 (both p.1.0 p.1.1.0))
 
 pub runs_step_settled : Settles runs-step.Learnt
-    (λ κ x s. let (count, (digits, (plan, (sets, (nodes, (track, (counters, _))))))) = s in
-    x beside nodes.now beside track.now beside counters.now)
+    (λ κ x s. let (count, (digits, (show, (run, _)))) = s in
+    x beside run.now.words.nodes beside run.now.words.track beside run.now.counters)
 runs_step_settled κ lent x y s t p q = step_once x y (p.0 ∙ sym q.0)
 
 pub playing_play_settled : Settles playing-play.Learnt
-    (λ κ x s. let (text, (at, (digits, (plan, (sets, (nodes, (track, (counters, _)))))))) = s in
-    (x beside nodes.now beside track.now beside counters.now) beside digits.now)
+    (λ κ x s. let (text, (at, (digits, (show, (run, _))))) = s in
+    (x beside run.now.words.nodes beside run.now.words.track beside run.now.counters) beside digits.now)
 playing_play_settled κ lent x y s t p q = both (play_once x y (p.0 ∙ sym q.0)) (p.1.0 ∙ sym q.1.0)
 
 -- ---- saving
 
 pub links_link_settled : Settles links-link.Learnt
-    (λ κ x s. let (arcs, (marks, (track, (kinds, (after, (sides, _)))))) = s in x beside sides.now)
+    (λ κ x s. let (arcs, (marks, (track, (table, (sides, _))))) = s in x beside sides.now)
 links_link_settled = by_equation (λ κ lent x s p. both p.0 p.1)
 
 pub walks_walk_settled : Settles walks-walk.Learnt
@@ -240,15 +246,15 @@ pub walks_walk_settled : Settles walks-walk.Learnt
 walks_walk_settled = by_equation (λ κ lent x s p. both p.0 p.1)
 
 pub numbering_number_settled : Settles numbering-number.Learnt
-    (λ κ x s. let (arcs, (meetings, (marks, (track, (kinds, (after, (labels, (graph, (sides, (pending, (numbers, (spare, _)))))))))))) = s in
-    with_counts x labels.now graph.now beside sides.now beside pending.now beside numbers.now
-    beside spare.now)
+    (λ κ x s. let (arcs, (meetings, (track, (table, (work, _))))) = s in
+    with_counts x work.now.graph.labels work.now.graph.track beside work.now.marks beside work.now.sides
+    beside work.now.pending beside work.now.numbers beside work.now.spare)
 numbering_number_settled =
     by_equation (λ κ lent x s p. both p.0 (both p.1.0 (both p.1.1.0
-    (both p.1.1.1.0 p.1.1.1.1))))
+    (both p.1.1.1.0 (both p.1.1.1.1.0 p.1.1.1.1.1)))))
 
 pub writing_write_settled : Settles writing-write.Learnt
-    (λ κ x s. let (counts, (labels, (graph, (kinds, (owners, (after, (roots, (text, _)))))))) = s in
+    (λ κ x s. let (counts, (graph, (table, (text, _)))) = s in
     x beside text.now)
 writing_write_settled κ lent x y s t p q = write_once x y (p ∙ sym q)
 
@@ -256,33 +262,22 @@ pub writing_refusal_of_settled : Settles writing-refusal-of.Learnt (λ κ x s. x
 writing_refusal_of_settled κ lent x y s t p q = met_once x y (p ∙ sym q)
 
 saving_told : Settles saving-save.Learnt
-    (λ κ x s. let (kinds, (owners, (after, (roots, (nodes, (track, (counters, (labels, (graph, (marks, (sides, (pending, (numbers, (spare, (text, _))))))))))))))) = s in
-    with_slice (saved_told x) text.now beside labels.now beside graph.now beside marks.now beside sides.now
-    beside pending.now beside numbers.now beside spare.now)
-saving_told =
-    by_equation (λ κ lent x s p. both p.0 (both p.1.0 (both p.1.1.0 (both p.1.1.1.0
-    (both p.1.1.1.1.0 (both p.1.1.1.1.1.0
-    (both p.1.1.1.1.1.1.0 p.1.1.1.1.1.1.1.0)))))))
+    (λ κ x s. let (table, (run, (work, (text, _)))) = s in
+    with_slice (saved_told x) text.now beside work.now)
+saving_told = by_equation (λ κ lent x s p. both p.0 p.1.0)
 
 pub saving_save_settled : Settles saving-save.Learnt
-    (λ κ x s. let (kinds, (owners, (after, (roots, (nodes, (track, (counters, (labels, (graph, (marks, (sides, (pending, (numbers, (spare, (text, _))))))))))))))) = s in
-    (x beside text.now) beside labels.now beside graph.now beside marks.now beside sides.now
-    beside pending.now beside numbers.now beside spare.now)
+    (λ κ x s. let (table, (run, (work, (text, _)))) = s in (x beside text.now) beside work.now)
 saving_save_settled κ lent x y s t p q = in_front (write_once x y) (saving_told κ lent x y s t p q)
 
 reading_told : Settles reading-read-track.Learnt
-    (λ κ x s. let (text, (definitions, (kinds, (payloads, (after, (roots, (labels, (graph, (marks, (track, (sides, (pending, (numbers, (walked, _)))))))))))))) = s in
-    with_graph (read_told x) labels.now graph.now beside marks.now beside track.now beside sides.now
-    beside pending.now beside numbers.now beside walked.now)
-reading_told =
-    by_equation (λ κ lent x s p. both p.0 (both p.1.1.0 (both p.1.1.1.0
-    (both p.1.1.1.1.0 (both p.1.1.1.1.1.0
-    (both p.1.1.1.1.1.1.0 p.1.1.1.1.1.1.1))))))
+    (λ κ x s. let (text, (definitions, (table, (found, (work, _))))) = s in
+    with_graph (read_told x) found.now.labels found.now.track beside work.now)
+reading_told = by_equation (λ κ lent x s p. both p.0 p.1.1)
 
 pub reading_read_track_settled : Settles reading-read-track.Learnt
-    (λ κ x s. let (text, (definitions, (kinds, (payloads, (after, (roots, (labels, (graph, (marks, (track, (sides, (pending, (numbers, (walked, _)))))))))))))) = s in
-    (x beside labels.now beside graph.now) beside marks.now beside track.now beside sides.now
-    beside pending.now beside numbers.now beside walked.now)
+    (λ κ x s. let (text, (definitions, (table, (found, (work, _))))) = s in
+    (x beside found.now.labels beside found.now.track) beside work.now)
 reading_read_track_settled κ lent x y s t p q = in_front (read_once x y) (reading_told κ lent x y s t p q)
 
 -- ---- programs

@@ -1,17 +1,16 @@
 -- The promises of what a host calls settle their outcomes: of the functions over the parts of blocks, and of the numbers that are
 -- told. Each is an equation with what was lent; the events that are offered are told by their members, which determine them.
 -- Assumes nothing.
-use Prim.Native.Nat.{ℕ}
-use mathlib.Core.Path.{◌≡◌, sym, ◌∙◌, ap}
+use Rattle.std.proofs.Common.{ℕ, ◌≡◌, sym, ◌∙◌, ap}
 use mir.Syntax.{Dict}
 use denote.RattleType.{RattleType}
 use denote.Param.Laws.{Laws, IsCopy}
 use Rattle.std.specs.declared.clone.Clone.{Ghosts}
-use Rattle.columns.specs.words.Columns.{all_columns}
+use Rattle.columns.specs.words.Held.{held}
 use Rattle.sets.proofs.Told.{same_members}
 use Rattle.table_parts.specs.code.TableTold.{with_table}
 use Rattle.run_parts.specs.code.RunTold.{with_start, with_run, with_line, with_events, EventsTold}
-use Rattle.track_parts.specs.code.TrackTold.{with_text, with_track, save_work, read_work}
+use Rattle.track_parts.specs.code.TrackTold.{with_text, with_track}
 use Rattle.outcomes.specs.Settles.{Settles, ◌beside◌}
 use Rattle.outcomes.proofs.Settling.{by_equation, both}
 use Rattle.answers.proofs.of_event.Reads as answers-of-event
@@ -85,47 +84,46 @@ answers_unready_settled = by_equation (λ κ lent x s p. p)
 -- ---- parts of blocks
 
 pub table_parts_check_parts_settled : Settles table-parts-check-parts.Learnt
-    (λ κ x s. let (text, (line, (head, (kinds, (payloads, (owners, (after, (roots, (plan, _))))))))) = s in
-    with_table x line.now head.now
-    (all_columns kinds.now payloads.now owners.now after.now roots.now) plan.now)
+    (λ κ x s. let (text, (line, (head, (show, _)))) = s in
+    with_table x line.now head.now (held show.now.table) show.now.plan)
 table_parts_check_parts_settled = by_equation (λ κ lent x s p. p)
 
 pub run_parts_start_parts_settled : Settles run-parts-start-parts.Learnt
-    (λ κ x s. let (stamp, (nodes, (track, (counters, _)))) = s in
-    with_start stamp.now nodes.now track.now counters.now)
+    (λ κ x s. let (stamp, (run, _)) = s in
+    with_start stamp.now run.now.words.nodes run.now.words.track run.now.counters)
 run_parts_start_parts_settled = by_equation (λ κ lent x s p. p)
 
 pub run_parts_step_parts_settled : Settles run-parts-step-parts.Learnt
-    (λ κ x s. let (address, (head, (plan, (sets, (stamp, (digits, (nodes, (track, (counters, _))))))))) = s in
-    with_run x digits.now nodes.now track.now counters.now)
+    (λ κ x s. let (address, (head, (show, (stamp, (digits, (run, _)))))) = s in
+    with_run x digits.now run.now.words.nodes run.now.words.track run.now.counters)
 run_parts_step_parts_settled = by_equation (λ κ lent x s p. p)
 
 pub run_parts_play_parts_settled : Settles run-parts-play-parts.Learnt
-    (λ κ x s. let (script, (at, (head, (plan, (sets, (stamp, (digits, (nodes, (track, (counters, _)))))))))) = s in
-    with_line x at.now digits.now nodes.now track.now counters.now)
+    (λ κ x s. let (script, (at, (head, (show, (stamp, (digits, (run, _))))))) = s in
+    with_line x at.now digits.now run.now.words.nodes run.now.words.track run.now.counters)
 run_parts_play_parts_settled = by_equation (λ κ lent x s p. p)
 
 pub run_parts_offers_parts_settled : Settles run-parts-offers-parts.Learnt
-    (λ κ x s. let (events, (head, (plan, (sets, (stamp, (nodes, (counters, _))))))) = s in x beside events.now)
+    (λ κ x s. let (events, (head, (show, (stamp, (run, _))))) = s in x beside events.now)
 run_parts_offers_parts_settled κ lent x y s t p q = events_once x y s.0.now t.0.now (p ∙ sym q)
 
 pub run_parts_status_parts_settled : Settles run-parts-status-parts.Learnt (λ κ x s. x)
 run_parts_status_parts_settled = by_equation (λ κ lent x s p. p)
 
 pub track_parts_save_parts_settled : Settles track-parts-save-parts.Learnt
-    (λ κ x s. let (text, (length, (head, (kinds, (owners, (after, (roots, (stamp, (nodes, (track, (counters, (labels, (graph, (marks, (sides, (pending, (numbers, (spare, _)))))))))))))))))) = s in
+    (λ κ x s. let (text, (length, (head, (table, (stamp, (run, (work, _))))))) = s in
     with_text x length.now text.now
-    beside save_work labels.now graph.now marks.now sides.now pending.now numbers.now spare.now)
+    beside work.now)
 track_parts_save_parts_settled = by_equation (λ κ lent x s p. both p.0 p.1)
 
 pub track_parts_read_parts_settled : Settles track-parts-read-parts.Learnt
-    (λ κ x s. let (text, (line, (head, (kinds, (payloads, (after, (roots, (found, (labels, (graph, (marks, (track, (sides, (pending, (numbers, (walked, _)))))))))))))))) = s in
-    with_track x line.now found.now labels.now graph.now
-    beside read_work marks.now track.now sides.now pending.now numbers.now walked.now)
+    (λ κ x s. let (text, (line, (head, (table, (found, (graph, (work, _))))))) = s in
+    with_track x line.now found.now graph.now.labels graph.now.track
+    beside work.now)
 track_parts_read_parts_settled = by_equation (λ κ lent x s p. both p.0 p.1)
 
 pub track_parts_write_parts_settled : Settles track-parts-write-parts.Learnt
-    (λ κ x s. let (text, (length, (head, (kinds, (owners, (after, (roots, (found, (labels, (graph, _)))))))))) = s in
+    (λ κ x s. let (text, (length, (head, (table, (found, (graph, _)))))) = s in
     with_text x length.now text.now)
 track_parts_write_parts_settled = by_equation (λ κ lent x s p. p)
 

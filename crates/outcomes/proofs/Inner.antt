@@ -1,6 +1,6 @@
 -- The promise of every public function that is no door settles its outcome too, by the same laws as a door's. Assumes nothing.
-use mathlib.Core.Path.{sym, ◌∙◌}
-use Rattle.loaded.specs.words.Held.{held}
+use Rattle.std.proofs.Common.{sym, ◌∙◌}
+use Rattle.columns.specs.words.Held.{held}
 use Rattle.offering.proofs.Once.{offers_once}
 use Rattle.leaves.specs.code.Leaves.{with_words}
 use Rattle.pairing.specs.code.Renumbered.{with_count}
@@ -8,11 +8,11 @@ use Rattle.lines.proofs.Refusals.{told_once}
 use Rattle.opening.proofs.Handed.{opened_told_once, lines_told_once}
 use Rattle.outcomes.specs.Settles.{Settles, ◌beside◌}
 use Rattle.outcomes.proofs.Settling.{by_equation, both}
-use Rattle.outcomes.proofs.Doors.{check_once}
 use Rattle.numbers.proofs.number_at.Reads as numbers-number-at
 use Rattle.numbers.proofs.byte_at.Reads as numbers-byte-at
 use Rattle.frames.proofs.read_frame.Reads as frames-read-frame
 use Rattle.frames.proofs.closes.Reads as frames-closes
+use Rattle.columns.proofs.Table.new.Reads as columns-table-new
 use Rattle.columns.proofs.kind_of.Reads as columns-kind-of
 use Rattle.columns.proofs.payload_of.Reads as columns-payload-of
 use Rattle.columns.proofs.owner_of.Reads as columns-owner-of
@@ -31,10 +31,12 @@ use Rattle.marks.proofs.is_own.Reads as marks-is-own
 use Rattle.marks.proofs.is_event.Reads as marks-is-event
 use Rattle.inputs.proofs.input_room.Reads as inputs-input-room
 use Rattle.inputs.proofs.table_and_script.Reads as inputs-table-and-script
+use Rattle.plans.proofs.Show.new.Reads as plans-show-new
 use Rattle.plans.proofs.kind_of.Reads as plans-kind-of
 use Rattle.plans.proofs.operand_of.Reads as plans-operand-of
 use Rattle.plans.proofs.second_of.Reads as plans-second-of
 use Rattle.plans.proofs.around_of.Reads as plans-around-of
+use Rattle.control.proofs.Run.new.Reads as control-run-new
 use Rattle.control.proofs.word.Reads as control-word
 use Rattle.control.proofs.put.Reads as control-put
 use Rattle.control.proofs.track_word.Reads as control-track-word
@@ -92,6 +94,8 @@ use Rattle.counting.proofs.recount.Reads as counting-recount
 use Rattle.spelling.proofs.put_number.Reads as spelling-put-number
 use Rattle.spelling.proofs.put_byte.Reads as spelling-put-byte
 use Rattle.spelling.proofs.put_end.Reads as spelling-put-end
+use Rattle.links.proofs.Graph.new.Reads as links-graph-new
+use Rattle.links.proofs.Work.new.Reads as links-work-new
 use Rattle.links.proofs.reference_word.Reads as links-reference-word
 use Rattle.links.proofs.side_word.Reads as links-side-word
 use Rattle.sorting.proofs.sort.Reads as sorting-sort
@@ -111,9 +115,6 @@ use Rattle.shape_rules.proofs.all_marked.Reads as shape-rules-all-marked
 use Rattle.shape_rules.proofs.ascend.Reads as shape-rules-ascend
 use Rattle.shape_rules.proofs.join_events.Reads as shape-rules-join-events
 use Rattle.shapes.proofs.has_shape.Reads as shapes-has-shape
-use Rattle.loaded.proofs.Table.new.Reads as loaded-new
-use Rattle.loaded.proofs.Table.check.Reads as loaded-check
-use Rattle.loaded.proofs.Table.place.Reads as loaded-place
 use Rattle.telling.proofs.put_event.Reads as telling-put-event
 use Rattle.telling.proofs.put_status.Reads as telling-put-status
 use Rattle.telling.proofs.put_refusal.Reads as telling-put-refusal
@@ -132,6 +133,9 @@ frames_read_frame_settled = by_equation (λ κ lent x s p. p)
 
 pub frames_closes_settled : Settles frames-closes.Learnt (λ κ x s. x)
 frames_closes_settled = by_equation (λ κ lent x s p. p)
+
+pub columns_table_new_settled : Settles columns-table-new.Learnt (λ κ x s. held x)
+columns_table_new_settled = by_equation (λ κ lent x s p. p)
 
 pub columns_kind_of_settled : Settles columns-kind-of.Learnt (λ κ x s. x)
 columns_kind_of_settled = by_equation (λ κ lent x s p. p)
@@ -155,11 +159,12 @@ pub columns_root_word_settled : Settles columns-root-word.Learnt (λ κ x s. x)
 columns_root_word_settled = by_equation (λ κ lent x s p. p)
 
 pub filling_take_settled : Settles filling-take.Learnt
-    (λ κ x s. let (frame, (seen, (waiting, (kinds, (payloads, (owners, (roots, _))))))) = s in
-    x beside waiting.now beside kinds.now beside payloads.now beside owners.now beside roots.now)
+    (λ κ x s. let (frame, (seen, (waiting, (table, _)))) = s in
+    x beside waiting.now beside table.now.kinds beside table.now.payloads beside table.now.owners
+    beside table.now.roots beside table.now.after)
 filling_take_settled =
     by_equation (λ κ lent x s p. both p.0 (both p.1.0 (both p.1.1.0 (both p.1.1.1.0
-    (both p.1.1.1.1.0 p.1.1.1.1.1)))))
+    (both p.1.1.1.1.0 (both p.1.1.1.1.1.0 p.1.1.1.1.1.1))))))
 
 pub filling_walk_settled : Settles filling-walk.Learnt
     (λ κ x s. let (kinds, (count, (after, _))) = s in after.now)
@@ -194,6 +199,9 @@ inputs_table_and_script_settled = by_equation (λ κ lent x s p. both p.0 p.1)
 
 -- ---- rules
 
+pub plans_show_new_settled : Settles plans-show-new.Learnt (λ κ x s. held x.table beside x.plan)
+plans_show_new_settled = by_equation (λ κ lent x s p. both p.0 p.1)
+
 pub plans_kind_of_settled : Settles plans-kind-of.Learnt (λ κ x s. x)
 plans_kind_of_settled = by_equation (λ κ lent x s p. p)
 
@@ -205,6 +213,9 @@ plans_second_of_settled = by_equation (λ κ lent x s p. p)
 
 pub plans_around_of_settled : Settles plans-around-of.Learnt (λ κ x s. x)
 plans_around_of_settled = by_equation (λ κ lent x s p. p)
+
+pub control_run_new_settled : Settles control-run-new.Learnt (λ κ x s. x)
+control_run_new_settled = by_equation (λ κ lent x s p. p)
 
 pub control_word_settled : Settles control-word.Learnt (λ κ x s. x)
 control_word_settled = by_equation (λ κ lent x s p. p)
@@ -332,22 +343,22 @@ pub drawing_join_settled : Settles drawing-join.Learnt
 drawing_join_settled = by_equation (λ κ lent x s p. both p.0 p.1)
 
 pub leaves_call_start_settled : Settles leaves-call-start.Learnt
-    (λ κ x s. let (tally, (nodes, (track, _))) = s in with_words x nodes.now track.now)
+    (λ κ x s. let (tally, (words, _)) = s in with_words x words.now.nodes words.now.track)
 leaves_call_start_settled = by_equation (λ κ lent x s p. p)
 
 pub leaves_take_leaf_settled : Settles leaves-take-leaf.Learnt
-    (λ κ x s. let (n, (bound, (at, (size, (digit, (tally, (plan, (nodes, (track, _))))))))) = s in
-    with_words x nodes.now track.now)
+    (λ κ x s. let (n, (bound, (at, (size, (digit, (tally, (plan, (words, _)))))))) = s in
+    with_words x words.now.nodes words.now.track)
 leaves_take_leaf_settled = by_equation (λ κ lent x s p. p)
 
 pub leaves_take_end_settled : Settles leaves-take-end.Learnt
-    (λ κ x s. let (n, (bound, (at, (size, (tally, (plan, (nodes, (track, _)))))))) = s in
-    with_words x nodes.now track.now)
+    (λ κ x s. let (n, (bound, (at, (size, (tally, (plan, (words, _))))))) = s in
+    with_words x words.now.nodes words.now.track)
 leaves_take_end_settled = by_equation (λ κ lent x s p. p)
 
 pub leaves_settle_settled : Settles leaves-settle.Learnt
-    (λ κ x s. let (done, (t, (frame, (bound, (plan, (nodes, (track, _))))))) = s in
-    with_words x nodes.now track.now)
+    (λ κ x s. let (done, (t, (frame, (bound, (plan, (words, _)))))) = s in
+    with_words x words.now.nodes words.now.track)
 leaves_settle_settled = by_equation (λ κ lent x s p. p)
 
 pub leaves_come_settled : Settles leaves-come.Learnt (λ κ x s. x)
@@ -358,8 +369,8 @@ pub sides_enter_settled : Settles sides-enter.Learnt
 sides_enter_settled = by_equation (λ κ lent x s p. both p.0 p.1)
 
 pub sides_enter_side_settled : Settles sides-enter-side.Learnt
-    (λ κ x s. let (n, (side, (t, (frame, (tally, (nodes, (track, _))))))) = s in
-    x beside nodes.now beside track.now)
+    (λ κ x s. let (n, (side, (t, (frame, (tally, (words, _)))))) = s in
+    x beside words.now.nodes beside words.now.track)
 sides_enter_side_settled = by_equation (λ κ lent x s p. both p.0 (both p.1.0 p.1.1))
 
 pub sides_put_side_settled : Settles sides-put-side.Learnt
@@ -367,18 +378,18 @@ pub sides_put_side_settled : Settles sides-put-side.Learnt
 sides_put_side_settled = by_equation (λ κ lent x s p. p)
 
 pub sides_close_one_settled : Settles sides-close-one.Learnt
-    (λ κ x s. let (n, (side, (bound, (size, (own, (other, (done, (plan, (nodes, (track, _)))))))))) = s in
-    with_words x nodes.now track.now)
+    (λ κ x s. let (n, (side, (bound, (size, (own, (other, (done, (plan, (words, _))))))))) = s in
+    with_words x words.now.nodes words.now.track)
 sides_close_one_settled = by_equation (λ κ lent x s p. p)
 
 pub sides_close_both_settled : Settles sides-close-both.Learnt
-    (λ κ x s. let (n, (size, (own, (other, (met, (done, (across, (nodes, (track, _))))))))) = s in
-    with_words x nodes.now track.now)
+    (λ κ x s. let (n, (size, (own, (other, (met, (done, (across, (words, _)))))))) = s in
+    with_words x words.now.nodes words.now.track)
 sides_close_both_settled = by_equation (λ κ lent x s p. p)
 
 pub stepping_take_settled : Settles stepping-take.Learnt
-    (λ κ x s. let (n, (bound, (at, (size, (left, (count, (tally, (digits, (plan, (nodes, (track, _))))))))))) = s in
-    with_words x nodes.now track.now)
+    (λ κ x s. let (n, (bound, (at, (size, (left, (count, (tally, (digits, (plan, (words, _)))))))))) = s in
+    with_words x words.now.nodes words.now.track)
 stepping_take_settled = by_equation (λ κ lent x s p. p)
 
 pub counting_counter_settled : Settles counting-counter.Learnt (λ κ x s. x)
@@ -407,6 +418,12 @@ spelling_put_byte_settled = by_equation (λ κ lent x s p. both p.ends p.stands)
 pub spelling_put_end_settled : Settles spelling-put-end.Learnt
     (λ κ x s. let (at, (out, _)) = s in x beside out.now)
 spelling_put_end_settled = by_equation (λ κ lent x s p. both p.ends p.stands)
+
+pub links_graph_new_settled : Settles links-graph-new.Learnt (λ κ x s. x)
+links_graph_new_settled = by_equation (λ κ lent x s p. p)
+
+pub links_work_new_settled : Settles links-work-new.Learnt (λ κ x s. x)
+links_work_new_settled = by_equation (λ κ lent x s p. p)
 
 pub links_reference_word_settled : Settles links-reference-word.Learnt (λ κ x s. x)
 links_reference_word_settled = by_equation (λ κ lent x s p. p)
@@ -439,7 +456,7 @@ pub framing_nodes_length_settled : Settles framing-nodes-length.Learnt (λ κ x 
 framing_nodes_length_settled = by_equation (λ κ lent x s p. p.0)
 
 pub framing_put_nodes_settled : Settles framing-put-nodes.Learnt
-    (λ κ x s. let (count, (labels, (kinds, (owners, (after, (roots, (from, (out, _)))))))) = s in
+    (λ κ x s. let (count, (labels, (table, (from, (out, _))))) = s in
     x beside out.now)
 framing_put_nodes_settled = by_equation (λ κ lent x s p. both p.0.ends p.0.stands)
 
@@ -453,7 +470,7 @@ pub opening_last_lines_settled : Settles opening-last-lines.Learnt (λ κ x s. x
 opening_last_lines_settled κ lent x y s t p q = lines_told_once x y (p ∙ sym q)
 
 pub node_lines_read_nodes_settled : Settles node-lines-read-nodes.Learnt
-    (λ κ x s. let (text, (from, (count, (definitions, (kinds, (after, (roots, (labels, _)))))))) = s in
+    (λ κ x s. let (text, (from, (count, (definitions, (table, (labels, _)))))) = s in
     x beside labels.now)
 node_lines_read_nodes_settled κ lent x y s t p q = both (lines_told_once x y (p.0 ∙ sym q.0)) (p.1 ∙ sym q.1)
 
@@ -475,24 +492,10 @@ pub shape_rules_join_events_settled : Settles shape-rules-join-events.Learnt (λ
 shape_rules_join_events_settled = by_equation (λ κ lent x s p. p)
 
 pub shapes_has_shape_settled : Settles shapes-has-shape.Learnt
-    (λ κ x s. let (nodes, (arcs, (meetings, (kinds, (payloads, (after, (labels, (graph, (sides, (pending, (numbers, (walked, _)))))))))))) = s in
-    x beside sides.now beside pending.now beside numbers.now beside walked.now)
-shapes_has_shape_settled =
-    by_equation (λ κ lent x s p. both p.0 (both p.1.0 (both p.1.1.0
-    (both p.1.1.1.0 p.1.1.1.1))))
+    (λ κ x s. let (counts, (table, (work, _))) = s in x beside work.now)
+shapes_has_shape_settled = by_equation (λ κ lent x s p. both p.0 p.1)
 
 -- ---- programs
-
-pub loaded_new_settled : Settles loaded-new.Learnt (λ κ x s. held x)
-loaded_new_settled = by_equation (λ κ lent x s p. p)
-
-pub loaded_check_settled : Settles loaded-check.Learnt
-    (λ κ x s. let (table, (text, _)) = s in x beside held table.now)
-loaded_check_settled κ lent x y s t p q = check_once x y (p ∙ sym q)
-
-pub loaded_place_settled : Settles loaded-place.Learnt
-    (λ κ x s. let (table, (literal, (path, _))) = s in x beside path.now)
-loaded_place_settled = by_equation (λ κ lent x s p. both p.0 p.1)
 
 pub telling_put_event_settled : Settles telling-put-event.Learnt
     (λ κ x s. let (event, (at, (out, _))) = s in x beside out.now)

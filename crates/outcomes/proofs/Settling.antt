@@ -1,5 +1,5 @@
 -- A promise that is an equation of the outcome with what was lent settles it: two outcomes are equal to one thing. Assumes nothing.
-use mathlib.Core.Path.{◌≡◌, sym, ap₂, ◌∙◌}
+use Rattle.std.proofs.Common.{◌≡◌, sym, ap₂, ◌∙◌}
 use Rattle.outcomes.specs.Settles.{Settles, ◌beside◌}
 
 -- an outcome that the promise equates with something that was lent

@@ -1,16 +1,10 @@
 -- Lines where a pair is due. Their bytes meet 2 where they do not form a pair's frame, and then what their numbers meet, so bytes
 -- that meet no refusal are a pair's; the tests on the characters say the same. Behind some pairs' lines one more is read, and its
 -- numbers stand in the words; and the lines are document 01's. Assumes nothing.
-use Prim.Native.Nat.{ℕ, ◌+◌, ◌*◌, ◌/◌, ◌%◌, ◌≤◌, ◌<◌}
-use mathlib.Core.Path.{◌≡◌, refl, sym, ap, ◌∙◌}
-use mathlib.Core.Bool.{Bool, true, false}
-use mathlib.Core.List.{List, [], ◌∷◌, ◌++◌}
-use mathlib.Core.Logic.{◌⊎◌, ⊎_elim}
-use native.Mathlib.Omega.{arith}
-use lib.ListN.{length, drop, set, replicate, length-append}
-use lib.Dec.{eqb}
-use lib.Seq.{sets}
-use borrow.Author.Tests.{lt-ltb, le-ltb}
+use Rattle.std.proofs.Common.{ℕ, ◌+◌, ◌*◌, ◌/◌, ◌%◌, ◌≤◌, ◌<◌, ◌≡◌, refl, sym, ap, ◌∙◌, Bool, true, false}
+use Rattle.std.proofs.Common.{List, [], ◌∷◌, ◌++◌, ◌⊎◌, ⊎_elim, arith, length, drop, set, replicate}
+use Rattle.std.proofs.Common.{length-append, eqb, lt-ltb, le-ltb}
+use Rattle.std.proofs.lemmas.List.Edits.{sets}
 use Rattle.lines.specs.Line.{choose, lines, number_at}
 use Rattle.numbers.specs.code.Numbers.{read_bytes, byte_at}
 use Rattle.numbers.proofs.Laws.{read_length}

@@ -4,7 +4,7 @@ use Rattle.std.proofs.Common.{ℕ, zero, suc, ◌+◌, ◌*◌, ◌-◌, ◌≤�
 use Rattle.std.proofs.Common.{[], ◌∷◌, ◌++◌, append_assoc, append-nil, ◌⊎◌, inl, inr, length, set, length-append, arith}
 use Rattle.std.proofs.Common.{add-zero, add-one, ltb, lt-ltb, le-ltb}
 use Rattle.std.proofs.lemmas.List.Edits.{sets}
-use mathlib.Core.Bool.{and-false}
+use Rattle.std.proofs.Math.Bool.{and-false}
 use Rattle.lines.specs.Line.{choose}
 use Rattle.rules.specs.Track.{Pair, pair}
 use Rattle.control.specs.words.Words.{track_word}

@@ -4,7 +4,7 @@
 -- parallel the words tell both sides, which have fewer cells. Assumes nothing.
 use Rattle.std.proofs.Common.{ℕ, suc, ◌+◌, ◌-◌, ◌≤◌, ◌<◌, ◌≡◌, refl, ap, sym, ◌∙◌, true, false, List, []}
 use Rattle.std.proofs.Common.{◌∷◌, arith, add-one, length}
-use mathlib.Core.Option.{Option, none, some}
+use Rattle.std.proofs.Math.Option.{Option, none, some}
 use Rattle.frames.specs.TableFrame.{path_room}
 use Rattle.terms.specs.Term.{Leaf, call, SKIP, STOP, Operator, external, parallel, Term, Shallow, leaf_kind}
 use Rattle.terms.specs.Term.{operator_kind}

@@ -7,18 +7,17 @@ ghost use Rattle.std.specs.Prelude.{◌≡◌, drop, length};
 ghost use Rattle.std.proofs.lemmas.List.Edits.{sets as put};
 ghost use Rattle.lines.specs.Line.{lines};
 ghost use Rattle.tables.specs.Table.{judged};
-ghost use Rattle.columns.specs.words.Columns.{all_columns};
+ghost use Rattle.columns.specs.words.Held.{held};
 ghost use Rattle.listing.specs.Listing.{listing};
 ghost use Rattle.table_parts.specs.code.TableTold as table_told;
 ghost use Rattle.run_parts.specs.code.RunTold as run_told;
 ghost use Rattle.track_parts.specs.code.TrackTold as track_told;
 
 use answers::Head;
-use columns::{After, Kinds, Owners, Payloads, Roots};
-use control::{Counters, Nodes, Track};
-use links::{Column, SideWords};
+use control::Run;
+use links::{Graph, Work};
 use listing::list;
-use plans::Plan;
+use plans::Show;
 use run_parts::{offers_parts, play_parts, start_parts, status_parts, step_parts};
 use scripts::Digits;
 use table_parts::check_parts;
@@ -29,12 +28,7 @@ use track_parts::{read_parts, save_parts, write_parts};
 #[derive(Drop)]
 pub struct TableBlock {
     pub head: Head,
-    pub kinds: Kinds,
-    pub payloads: Payloads,
-    pub owners: Owners,
-    pub after: After,
-    pub roots: Roots,
-    pub plan: Plan,
+    pub show: Show,
 }
 
 // A run: its stamp, room for an address, its counters and its words.
@@ -43,9 +37,7 @@ pub struct TableBlock {
 pub struct RunBlock {
     pub stamp: usize,
     pub digits: Digits,
-    pub counters: Counters,
-    pub nodes: Nodes,
-    pub track: Track,
+    pub run: Run,
 }
 
 // A track that was read: its head, the marks of its nodes by number, and its arcs and meetings.
@@ -53,22 +45,12 @@ pub struct RunBlock {
 #[derive(Drop)]
 pub struct TrackBlock {
     pub head: Head,
-    pub labels: Column,
-    pub graph: Track,
+    pub graph: Graph,
 }
 
-// Room to work in, for saving and reading. What stands there does not matter, and it is all 0 afterwards.
-#[repr(C)]
-#[derive(Drop)]
-pub struct WorkBlock {
-    pub labels: Column,
-    pub graph: Track,
-    pub marks: Column,
-    pub sides: SideWords,
-    pub pending: SideWords,
-    pub numbers: Column,
-    pub spare: Track,
-}
+// Room to work in, for saving and reading. What stands there does not matter, and it is all 0 afterwards, but for the track of its
+// graph behind a read.
+pub type WorkBlock = Work;
 
 // The listing of an input, in front of a slice as far as it goes; tells how long it is.
 pub fn peashuttle_proved_list(input: &[u8], out: &mut [u8]) -> usize
@@ -81,58 +63,37 @@ pub fn peashuttle_proved_list(input: &[u8], out: &mut [u8]) -> usize
 // Checks a table's text, and fills a table's block with it and its plan; or tells the refusal and its line.
 pub fn peashuttle_proved_check(text: &[u8], line: &mut usize, table: &mut TableBlock) -> u32
     ensures { table_told.with_table result line.new table.new.head
-        (all_columns table.new.kinds table.new.payloads table.new.owners
-        table.new.after table.new.roots) table.new.plan
-        ≡ table_told.checked table.old.head (all_columns table.old.kinds
-        table.old.payloads table.old.owners table.old.after
-        table.old.roots) table.old.plan (judged text.now) }
+        (held table.new.show.table) table.new.show.plan
+        ≡ table_told.checked table.old.head (held table.old.show.table) table.old.show.plan (judged text.now) }
 {
-    check_parts(
-        text,
-        line,
-        &mut table.head,
-        &mut table.kinds,
-        &mut table.payloads,
-        &mut table.owners,
-        &mut table.after,
-        &mut table.roots,
-        &mut table.plan,
-    )
+    check_parts(text, line, &mut table.head, &mut table.show)
 }
 
 // Starts a run in a run's block.
 pub fn peashuttle_proved_start(run: &mut RunBlock)
-    ensures { (run_told.with_start run.new.stamp run.new.nodes run.new.track
-        run.new.counters ≡ run_told.started)
+    ensures { (run_told.with_start run.new.stamp run.new.run.words.nodes run.new.run.words.track
+        run.new.run.counters ≡ run_told.started)
         × (run.new.digits ≡ run.old.digits) }
 {
-    start_parts(
-        &mut run.stamp,
-        &mut run.nodes,
-        &mut run.track,
-        &mut run.counters,
-    )
+    start_parts(&mut run.stamp, &mut run.run)
 }
 
 // Steps a run by the digits of an address; tells the event or the refusal.
 pub fn peashuttle_proved_step(address: &[u8], table: &TableBlock, run: &mut RunBlock) -> u32
-    ensures { (run_told.with_run result run.new.digits run.new.nodes run.new.track
-        run.new.counters
-        ≡ run_told.stepped table.now.head run.old.stamp table.now.plan
-        table.now.payloads run.old.digits run.old.nodes run.old.track
-        run.old.counters address.now)
+    ensures { (run_told.with_run result run.new.digits run.new.run.words.nodes run.new.run.words.track
+        run.new.run.counters
+        ≡ run_told.stepped table.now.head run.old.stamp table.now.show.plan
+        table.now.show.table.payloads run.old.digits run.old.run.words.nodes run.old.run.words.track
+        run.old.run.counters address.now)
         × (run.new.stamp ≡ run.old.stamp) }
 {
     step_parts(
         address,
         &table.head,
-        &table.plan,
-        &table.payloads,
+        &table.show,
         &run.stamp,
         &mut run.digits,
-        &mut run.nodes,
-        &mut run.track,
-        &mut run.counters,
+        &mut run.run,
     )
 }
 
@@ -144,58 +105,40 @@ pub fn peashuttle_proved_play(
     table: &TableBlock,
     run: &mut RunBlock,
 ) -> u32
-    ensures { (run_told.with_line result at.new run.new.digits run.new.nodes
-        run.new.track run.new.counters
-        ≡ run_told.played table.now.head run.old.stamp table.now.plan
-        table.now.payloads run.old.digits run.old.nodes run.old.track
-        run.old.counters at.old (lines (drop at.old script.now)))
+    ensures { (run_told.with_line result at.new run.new.digits run.new.run.words.nodes
+        run.new.run.words.track run.new.run.counters
+        ≡ run_told.played table.now.head run.old.stamp table.now.show.plan
+        table.now.show.table.payloads run.old.digits run.old.run.words.nodes run.old.run.words.track
+        run.old.run.counters at.old (lines (drop at.old script.now)))
         × (run.new.stamp ≡ run.old.stamp) }
 {
     play_parts(
         script,
         at,
         &table.head,
-        &table.plan,
-        &table.payloads,
+        &table.show,
         &run.stamp,
         &mut run.digits,
-        &mut run.nodes,
-        &mut run.track,
-        &mut run.counters,
+        &mut run.run,
     )
 }
 
 // What a run offers: the events as the bits of a number; tells whether τ and ✓ are.
 pub fn peashuttle_proved_offers(events: &mut u64, table: &TableBlock, run: &RunBlock) -> u32
     ensures { run_told.with_events result events.new
-        ≡ run_told.offers table.now.head run.now.stamp table.now.plan
-        table.now.payloads run.now.nodes run.now.counters events.old }
+        ≡ run_told.offers table.now.head run.now.stamp table.now.show.plan
+        table.now.show.table.payloads run.now.run.words.nodes run.now.run.counters events.old }
 {
-    offers_parts(
-        events,
-        &table.head,
-        &table.plan,
-        &table.payloads,
-        &run.stamp,
-        &run.nodes,
-        &run.counters,
-    )
+    offers_parts(events, &table.head, &table.show, &run.stamp, &run.run)
 }
 
 // Tells the status of a run.
 pub fn peashuttle_proved_status(table: &TableBlock, run: &RunBlock) -> u32
     ensures { result ≡ run_told.status table.now.head run.now.stamp
-        table.now.plan table.now.payloads run.now.nodes
-        run.now.counters }
+        table.now.show.plan table.now.show.table.payloads run.now.run.words.nodes
+        run.now.run.counters }
 {
-    status_parts(
-        &table.head,
-        &table.plan,
-        &table.payloads,
-        &run.stamp,
-        &run.nodes,
-        &run.counters,
-    )
+    status_parts(&table.head, &table.show, &run.stamp, &run.run)
 }
 
 // Saves a run's track as its text, in front of a slice, and tells its length; or refusal 12.
@@ -207,35 +150,19 @@ pub fn peashuttle_proved_save(
     work: &mut WorkBlock,
 ) -> u32
     ensures { (track_told.with_text result length.new text.new
-        ≡ track_told.saved table.now.head run.now.stamp table.now.kinds
-        table.now.owners table.now.after table.now.roots run.now.nodes
-        run.now.track run.now.counters length.old text.old)
-        × (track_told.save_work work.new.labels work.new.graph work.new.marks
-        work.new.sides work.new.pending work.new.numbers work.new.spare
-        ≡ track_told.work_after_saving table.now.head run.now.stamp
-        (track_told.save_work work.old.labels work.old.graph work.old.marks
-        work.old.sides work.old.pending work.old.numbers
-        work.old.spare)) }
+        ≡ track_told.saved table.now.head run.now.stamp table.now.show.table.kinds
+        table.now.show.table.owners table.now.show.table.after table.now.show.table.roots run.now.run.words.nodes
+        run.now.run.words.track run.now.run.counters length.old text.old)
+        × (work.new ≡ track_told.work_after_saving table.now.head run.now.stamp work.old) }
 {
     save_parts(
         text,
         length,
         &table.head,
-        &table.kinds,
-        &table.owners,
-        &table.after,
-        &table.roots,
+        &table.show.table,
         &run.stamp,
-        &run.nodes,
-        &run.track,
-        &run.counters,
-        &mut work.labels,
-        &mut work.graph,
-        &mut work.marks,
-        &mut work.sides,
-        &mut work.pending,
-        &mut work.numbers,
-        &mut work.spare,
+        &run.run,
+        work,
     )
 }
 
@@ -247,35 +174,21 @@ pub fn peashuttle_proved_read(
     found: &mut TrackBlock,
     work: &mut WorkBlock,
 ) -> u32
-    ensures { (track_told.with_track result line.new found.new.head found.new.labels
-        found.new.graph
-        ≡ track_told.read table.now.head table.now.kinds table.now.payloads
-        table.now.after table.now.roots text.now line.old
-        found.old.head found.old.labels found.old.graph)
-        × (track_told.read_work work.new.marks work.new.spare work.new.sides
-        work.new.pending work.new.numbers work.new.labels
-        ≡ track_told.work_after_reading table.now.head (track_told.read_work work.old.marks
-        work.old.spare work.old.sides work.old.pending work.old.numbers
-        work.old.labels))
-        × (work.new.graph ≡ work.old.graph) }
+    ensures { (track_told.with_track result line.new found.new.head found.new.graph.labels
+        found.new.graph.track
+        ≡ track_told.read table.now.head table.now.show.table.kinds table.now.show.table.payloads
+        table.now.show.table.after table.now.show.table.roots text.now line.old
+        found.old.head found.old.graph.labels found.old.graph.track)
+        × (work.new ≡ track_told.work_after_reading table.now.head work.old) }
 {
     read_parts(
         text,
         line,
         &table.head,
-        &table.kinds,
-        &table.payloads,
-        &table.after,
-        &table.roots,
+        &table.show.table,
         &mut found.head,
-        &mut found.labels,
         &mut found.graph,
-        &mut work.marks,
-        &mut work.spare,
-        &mut work.sides,
-        &mut work.pending,
-        &mut work.numbers,
-        &mut work.labels,
+        work,
     )
 }
 
@@ -287,20 +200,16 @@ pub fn peashuttle_proved_write(
     found: &TrackBlock,
 ) -> u32
     ensures { track_told.with_text result length.new text.new
-        ≡ track_told.written_again table.now.head table.now.kinds table.now.owners
-        table.now.after table.now.roots found.now.head found.now.labels
-        found.now.graph length.old text.old }
+        ≡ track_told.written_again table.now.head table.now.show.table.kinds table.now.show.table.owners
+        table.now.show.table.after table.now.show.table.roots found.now.head found.now.graph.labels
+        found.now.graph.track length.old text.old }
 {
     write_parts(
         text,
         length,
         &table.head,
-        &table.kinds,
-        &table.owners,
-        &table.after,
-        &table.roots,
+        &table.show.table,
         &found.head,
-        &found.labels,
         &found.graph,
     )
 }

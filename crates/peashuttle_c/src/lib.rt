@@ -6,7 +6,7 @@ ghost use Rattle.std.specs.Prelude.{◌≡◌, drop, length};
 ghost use Rattle.std.proofs.lemmas.List.Edits.{sets as put};
 ghost use Rattle.lines.specs.Line.{lines};
 ghost use Rattle.tables.specs.Table.{judged};
-ghost use Rattle.columns.specs.words.Columns.{all_columns};
+ghost use Rattle.columns.specs.words.Held.{held};
 ghost use Rattle.listing.specs.Listing.{listing};
 ghost use Rattle.table_parts.specs.code.TableTold as table_told;
 ghost use Rattle.run_parts.specs.code.RunTold as run_told;
@@ -31,11 +31,8 @@ pub extern "C" fn peashuttle_proved_check(
     table: &mut TableBlock,
 ) -> u32
     ensures { table_told.with_table result line.new table.new.head
-        (all_columns table.new.kinds table.new.payloads table.new.owners
-        table.new.after table.new.roots) table.new.plan
-        ≡ table_told.checked table.old.head (all_columns table.old.kinds
-        table.old.payloads table.old.owners table.old.after
-        table.old.roots) table.old.plan (judged text.now) }
+        (held table.new.show.table) table.new.show.plan
+        ≡ table_told.checked table.old.head (held table.old.show.table) table.old.show.plan (judged text.now) }
 {
     peashuttle::peashuttle_proved_check(text, line, table)
 }
@@ -43,8 +40,8 @@ pub extern "C" fn peashuttle_proved_check(
 // Starts a run in a run's block.
 #[unsafe(no_mangle)]
 pub extern "C" fn peashuttle_proved_start(run: &mut RunBlock)
-    ensures { (run_told.with_start run.new.stamp run.new.nodes run.new.track
-        run.new.counters ≡ run_told.started)
+    ensures { (run_told.with_start run.new.stamp run.new.run.words.nodes run.new.run.words.track
+        run.new.run.counters ≡ run_told.started)
         × (run.new.digits ≡ run.old.digits) }
 {
     peashuttle::peashuttle_proved_start(run);
@@ -57,11 +54,11 @@ pub extern "C" fn peashuttle_proved_step(
     table: &TableBlock,
     run: &mut RunBlock,
 ) -> u32
-    ensures { (run_told.with_run result run.new.digits run.new.nodes run.new.track
-        run.new.counters
-        ≡ run_told.stepped table.now.head run.old.stamp table.now.plan
-        table.now.payloads run.old.digits run.old.nodes run.old.track
-        run.old.counters address.now)
+    ensures { (run_told.with_run result run.new.digits run.new.run.words.nodes run.new.run.words.track
+        run.new.run.counters
+        ≡ run_told.stepped table.now.head run.old.stamp table.now.show.plan
+        table.now.show.table.payloads run.old.digits run.old.run.words.nodes run.old.run.words.track
+        run.old.run.counters address.now)
         × (run.new.stamp ≡ run.old.stamp) }
 {
     peashuttle::peashuttle_proved_step(address, table, run)
@@ -76,11 +73,11 @@ pub extern "C" fn peashuttle_proved_play(
     table: &TableBlock,
     run: &mut RunBlock,
 ) -> u32
-    ensures { (run_told.with_line result at.new run.new.digits run.new.nodes
-        run.new.track run.new.counters
-        ≡ run_told.played table.now.head run.old.stamp table.now.plan
-        table.now.payloads run.old.digits run.old.nodes run.old.track
-        run.old.counters at.old (lines (drop at.old script.now)))
+    ensures { (run_told.with_line result at.new run.new.digits run.new.run.words.nodes
+        run.new.run.words.track run.new.run.counters
+        ≡ run_told.played table.now.head run.old.stamp table.now.show.plan
+        table.now.show.table.payloads run.old.digits run.old.run.words.nodes run.old.run.words.track
+        run.old.run.counters at.old (lines (drop at.old script.now)))
         × (run.new.stamp ≡ run.old.stamp) }
 {
     peashuttle::peashuttle_proved_play(script, at, table, run)
@@ -94,8 +91,8 @@ pub extern "C" fn peashuttle_proved_offers(
     run: &RunBlock,
 ) -> u32
     ensures { run_told.with_events result events.new
-        ≡ run_told.offers table.now.head run.now.stamp table.now.plan
-        table.now.payloads run.now.nodes run.now.counters events.old }
+        ≡ run_told.offers table.now.head run.now.stamp table.now.show.plan
+        table.now.show.table.payloads run.now.run.words.nodes run.now.run.counters events.old }
 {
     peashuttle::peashuttle_proved_offers(events, table, run)
 }
@@ -104,8 +101,8 @@ pub extern "C" fn peashuttle_proved_offers(
 #[unsafe(no_mangle)]
 pub extern "C" fn peashuttle_proved_status(table: &TableBlock, run: &RunBlock) -> u32
     ensures { result ≡ run_told.status table.now.head run.now.stamp
-        table.now.plan table.now.payloads run.now.nodes
-        run.now.counters }
+        table.now.show.plan table.now.show.table.payloads run.now.run.words.nodes
+        run.now.run.counters }
 {
     peashuttle::peashuttle_proved_status(table, run)
 }
@@ -120,15 +117,10 @@ pub extern "C" fn peashuttle_proved_save(
     work: &mut WorkBlock,
 ) -> u32
     ensures { (track_told.with_text result length.new text.new
-        ≡ track_told.saved table.now.head run.now.stamp table.now.kinds
-        table.now.owners table.now.after table.now.roots run.now.nodes
-        run.now.track run.now.counters length.old text.old)
-        × (track_told.save_work work.new.labels work.new.graph work.new.marks
-        work.new.sides work.new.pending work.new.numbers work.new.spare
-        ≡ track_told.work_after_saving table.now.head run.now.stamp
-        (track_told.save_work work.old.labels work.old.graph work.old.marks
-        work.old.sides work.old.pending work.old.numbers
-        work.old.spare)) }
+        ≡ track_told.saved table.now.head run.now.stamp table.now.show.table.kinds
+        table.now.show.table.owners table.now.show.table.after table.now.show.table.roots run.now.run.words.nodes
+        run.now.run.words.track run.now.run.counters length.old text.old)
+        × (work.new ≡ track_told.work_after_saving table.now.head run.now.stamp work.old) }
 {
     peashuttle::peashuttle_proved_save(text, length, table, run, work)
 }
@@ -142,17 +134,12 @@ pub extern "C" fn peashuttle_proved_read(
     found: &mut TrackBlock,
     work: &mut WorkBlock,
 ) -> u32
-    ensures { (track_told.with_track result line.new found.new.head found.new.labels
-        found.new.graph
-        ≡ track_told.read table.now.head table.now.kinds table.now.payloads
-        table.now.after table.now.roots text.now line.old
-        found.old.head found.old.labels found.old.graph)
-        × (track_told.read_work work.new.marks work.new.spare work.new.sides
-        work.new.pending work.new.numbers work.new.labels
-        ≡ track_told.work_after_reading table.now.head (track_told.read_work work.old.marks
-        work.old.spare work.old.sides work.old.pending work.old.numbers
-        work.old.labels))
-        × (work.new.graph ≡ work.old.graph) }
+    ensures { (track_told.with_track result line.new found.new.head found.new.graph.labels
+        found.new.graph.track
+        ≡ track_told.read table.now.head table.now.show.table.kinds table.now.show.table.payloads
+        table.now.show.table.after table.now.show.table.roots text.now line.old
+        found.old.head found.old.graph.labels found.old.graph.track)
+        × (work.new ≡ track_told.work_after_reading table.now.head work.old) }
 {
     peashuttle::peashuttle_proved_read(text, line, table, found, work)
 }
@@ -166,9 +153,9 @@ pub extern "C" fn peashuttle_proved_write(
     found: &TrackBlock,
 ) -> u32
     ensures { track_told.with_text result length.new text.new
-        ≡ track_told.written_again table.now.head table.now.kinds table.now.owners
-        table.now.after table.now.roots found.now.head found.now.labels
-        found.now.graph length.old text.old }
+        ≡ track_told.written_again table.now.head table.now.show.table.kinds table.now.show.table.owners
+        table.now.show.table.after table.now.show.table.roots found.now.head found.now.graph.labels
+        found.now.graph.track length.old text.old }
 {
     peashuttle::peashuttle_proved_write(text, length, table, found)
 }

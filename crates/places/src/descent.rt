@@ -6,35 +6,28 @@ ghost use Rattle.places.specs.code.Descent.{descended, reached, digits};
 ghost use Rattle.frames.specs.TableFrame.{path_room, term_room};
 
 use crate::Path;
-use columns::{After, Kinds, after_of, kind_of};
+use columns::{After, Table, after_of, kind_of};
 use kinds::subterms;
 
 // Writes the digits from term `from` down to term `to`, at most so many, in front of `path`; nothing is written where
 // there is no such way.
-pub fn descend(
-    from: usize,
-    to: usize,
-    most: usize,
-    kinds: &Kinds,
-    after: &After,
-    path: &mut Path,
-) -> Option<usize>
+pub fn descend(from: usize, to: usize, most: usize, table: &Table, path: &mut Path) -> Option<usize>
     requires { most ≤ path_room }
     ensures value { result ≡ reached 0
-        (descended most kinds.now after.now from to) }
+        (descended most table.now.kinds table.now.after from to) }
     ensures path_after { path.new ≡ sets path.old 0 (digits
-        (descended most kinds.now after.now from to)) }
+        (descended most table.now.kinds table.now.after from to)) }
 {
     let mut way = *path;
     let mut here = from;
     let mut depth = 0;
     // A `for` over the depths would have to ask once more behind it whether the way has ended.
     while here != to {
-        let count = subterms(kind_of(here, kinds));
+        let count = subterms(kind_of(here, &table.kinds));
         if most <= depth || count == 0 {
             return None;
         }
-        let step = step_to(here, to, count, after);
+        let step = step_to(here, to, count, &table.after);
         way[depth] = step.digit;
         here = step.next;
         depth += 1;

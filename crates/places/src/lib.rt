@@ -7,10 +7,10 @@ mod descent;
 ghost use Rattle.std.specs.Prelude.{◌≡◌, ◌≤◌};
 ghost use Rattle.std.proofs.lemmas.List.Edits.{sets};
 ghost use Rattle.places.specs.code.Descent.{answer, digits, literal_path, reached, path_of, event_of};
-ghost use Rattle.columns.specs.words.Columns.{columns};
+ghost use Rattle.columns.specs.words.Held.{placing};
 ghost use Rattle.frames.specs.TableFrame.{path_room};
 
-use columns::{After, Kinds, Owners, Roots, kind_of, owner_of, root_of};
+use columns::{Table, kind_of, owner_of, root_of};
 use descent::descend;
 use frames::PATH_ROOM;
 use kinds::PREFIX;
@@ -37,19 +37,12 @@ pub struct Placed {
 
 // The place of a literal by the columns of a table, whose path's digits go to the front of `path`; none, with `path` as it was,
 // where the columns hold no such literal.
-pub fn place(
-    literal: Literal,
-    kinds: &Kinds,
-    owners: &Owners,
-    after: &After,
-    roots: &Roots,
-    path: &mut Path,
-) -> Option<Placed>
+pub fn place(literal: Literal, table: &Table, path: &mut Path) -> Option<Placed>
     ensures value { result ≡ answer
-        (columns kinds.now owners.now after.now roots.now)
+        (placing table.now)
         literal }
     ensures path_after { path.new ≡ sets path.old 0 (digits (literal_path
-        (columns kinds.now owners.now after.now roots.now)
+        (placing table.now)
         literal)) }
 {
     let (definition, length) = match literal {
@@ -58,61 +51,46 @@ pub fn place(
             (definition, 1)
         }
         Literal::Own(n) => {
-            let length = path_to(n, PATH_ROOM, kinds, owners, after, roots, path)?;
-            (owner_of(n, owners), length)
+            let length = path_to(n, PATH_ROOM, table, path)?;
+            (owner_of(n, &table.owners), length)
         }
         Literal::Event(n) => {
-            let length = event_to(n, kinds, owners, after, roots, path)?;
-            (owner_of(n, owners), length)
+            let length = event_to(n, table, path)?;
+            (owner_of(n, &table.owners), length)
         }
     };
     Some(Placed { definition, length })
 }
 
 // Writes the path of a term's own literal, of at most so many digits.
-fn path_to(
-    n: usize,
-    most: usize,
-    kinds: &Kinds,
-    owners: &Owners,
-    after: &After,
-    roots: &Roots,
-    path: &mut Path,
-) -> Option<usize>
+fn path_to(n: usize, most: usize, table: &Table, path: &mut Path) -> Option<usize>
     requires { most ≤ path_room }
     ensures value { result ≡ reached 0 (path_of most
-        (columns kinds.now owners.now after.now roots.now)
+        (placing table.now)
         n) }
     ensures path_after { path.new ≡ sets path.old 0 (digits (path_of most
-        (columns kinds.now owners.now after.now roots.now)
+        (placing table.now)
         n)) }
 {
-    let definition = owner_of(n, owners);
-    let root = root_of(usize::from(definition), roots);
-    descend(root, n, most, kinds, after, path)
+    let definition = owner_of(n, &table.owners);
+    let root = root_of(usize::from(definition), &table.roots);
+    descend(root, n, most, table, path)
 }
 
 // Writes the path of a prefix's event: its prefix's, and the digit 1.
-fn event_to(
-    n: usize,
-    kinds: &Kinds,
-    owners: &Owners,
-    after: &After,
-    roots: &Roots,
-    path: &mut Path,
-) -> Option<usize>
+fn event_to(n: usize, table: &Table, path: &mut Path) -> Option<usize>
     ensures value { result ≡ reached 0 (event_of
-        (columns kinds.now owners.now after.now roots.now)
+        (placing table.now)
         n) }
     ensures path_after { path.new ≡ sets path.old 0 (digits (event_of
-        (columns kinds.now owners.now after.now roots.now)
+        (placing table.now)
         n)) }
 {
-    let kind = kind_of(n, kinds);
+    let kind = kind_of(n, &table.kinds);
     if kind != PREFIX {
         return None;
     }
-    let length = path_to(n, PATH_ROOM - 1, kinds, owners, after, roots, path)?;
+    let length = path_to(n, PATH_ROOM - 1, table, path)?;
     path[length] = 1;
     Some(length + 1)
 }

@@ -3,8 +3,9 @@
 -- nowhere, as does the event of what is no prefix. Assumes nothing.
 use Rattle.std.proofs.Common.{ℕ, suc, ◌+◌, ◌-◌, ◌≤◌, ◌<◌, ◌≡◌, refl, sym, ap, ◌∙◌, Bool, true, false, List}
 use Rattle.std.proofs.Common.{[], ◌∷◌, map, arith, length, get_or, ltb, ltb-true, ltb-false}
-use mathlib.Core.Option.{Option, none, some}
-use lib.ListN.{get_elem?, length-map, get_or-eq_default}
+use Rattle.std.proofs.lemmas.List.{length-map}
+use Rattle.std.proofs.Math.Option.{Option, none, some}
+use Rattle.std.proofs.Math.ListN.{get_elem?, get_or-eq_default}
 use Rattle.lines.specs.Judging.{accepted}
 use Rattle.frames.specs.TableFrame.{term_room, definition_room}
 use Rattle.tables.specs.Table.{Item, Sofar, judged}

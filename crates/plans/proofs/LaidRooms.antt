@@ -4,8 +4,8 @@
 -- Assumes nothing.
 use Rattle.std.proofs.Common.{ℕ, zero, suc, ◌+◌, ◌*◌, ◌≤◌, ◌<◌, ◌≡◌, refl, Bool, true, false, ◌||◌, List}
 use Rattle.std.proofs.Common.{[], ◌∷◌, arith, length, get_or, set, replicate, length-append, ltb, eqb}
-use mathlib.Core.Option.{Option, none, some}
-use lib.ListN.{get_elem?}
+use Rattle.std.proofs.Math.Option.{Option, none, some}
+use Rattle.std.proofs.Math.ListN.{get_elem?}
 use Rattle.lines.specs.Line.{choose}
 use Rattle.lines.proofs.Choosing.{choose_most}
 use Rattle.lines.specs.Judging.{accepted}

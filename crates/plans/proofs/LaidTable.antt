@@ -3,8 +3,9 @@
 -- Assumes nothing.
 use Rattle.std.proofs.Common.{ℕ, zero, suc, ◌+◌, ◌<◌, ◌≡◌, refl, sym, ap, ◌∙◌, List, [], ◌∷◌, arith, length}
 use Rattle.std.proofs.Common.{get_or}
-use mathlib.Core.Option.{some}
-use lib.ListN.{get_elem?, get_or-replicate, get_or-append}
+use Rattle.std.proofs.lemmas.List.{get_or-replicate}
+use Rattle.std.proofs.Math.Option.{some}
+use Rattle.std.proofs.Math.ListN.{get_elem?, get_or-append}
 use Rattle.lines.specs.Judging.{accepted}
 use Rattle.frames.specs.TableFrame.{definition_room}
 use Rattle.tables.specs.Table.{Sofar, judged}

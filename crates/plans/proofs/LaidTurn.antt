@@ -1,9 +1,8 @@
 -- What a term's turn leaves in a plan. Of the words that it puts three are the term's own and the others
 -- fourth words, of its subterms: so each is what was put there, and every other word stays. Assumes nothing.
 use Rattle.std.proofs.Common.{ℕ, zero, suc, ◌+◌, ◌*◌, ◌<◌, ◌≡◌, refl, sym, ap, ◌∙◌, Bool, true, false, List}
-use Rattle.std.proofs.Common.{arith, length, get_or, set, length-set, get_or-set_same, get_or-set_other}
-use Rattle.std.proofs.Common.{ltb}
-use lib.ListN.{length-replicate}
+use Rattle.std.proofs.Common.{arith, length, get_or, set, length-set, get_or-set_same, get_or-set_other, ltb}
+use Rattle.std.proofs.lemmas.List.{length-replicate}
 use Rattle.lines.specs.Line.{choose}
 use Rattle.frames.specs.TableFrame.{term_room}
 use Rattle.kinds.specs.Kind.{subterms}

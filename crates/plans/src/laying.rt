@@ -5,7 +5,7 @@ ghost use Rattle.frames.specs.TableFrame.{term_room};
 ghost use Rattle.plans.specs.code.Laid as of;
 
 use crate::{PLAN_WORDS, Plan};
-use columns::{After, Kinds, Payloads, Roots, after_word, root_word};
+use columns::{After, Roots, Table, after_word, root_word};
 use frames::TERM_ROOM;
 use kinds::{CALL, EXTERNAL, PARALLEL, PREFIX, SEQUENCE, subterms};
 
@@ -20,23 +20,16 @@ const AROUND: usize = 3;
 
 // Lays out the plan of a table of so many terms. What leads out of range, as no checked table's columns do, is
 // passed over.
-pub fn lay_out(
-    terms: usize,
-    kinds: &Kinds,
-    payloads: &Payloads,
-    after: &After,
-    roots: &Roots,
-    plan: &mut Plan,
-)
+pub fn lay_out(terms: usize, table: &Table, plan: &mut Plan)
     ensures { plan.new
-        ≡ of.laid_out terms kinds.now payloads.now after.now
-        roots.now }
+        ≡ of.laid_out terms table.now.kinds table.now.payloads table.now.after
+        table.now.roots }
 {
     *plan = [0u16; PLAN_WORDS];
     for t in 0..terms.min(TERM_ROOM) {
-        let kind = kinds[t];
-        let operand = operand_to(kind, payloads[t], roots);
-        let second = second_to(kind, t, after);
+        let kind = table.kinds[t];
+        let operand = operand_to(kind, table.payloads[t], &table.roots);
+        let second = second_to(kind, t, &table.after);
         lay_term(t, kind, operand, second, plan);
     }
 }

@@ -6,8 +6,10 @@
 mod laying;
 
 ghost use Rattle.std.specs.Prelude.{◌≡◌, ◌<◌};
+ghost use Rattle.columns.specs.words.Held.{held, no_terms};
 ghost use Rattle.plans.specs.words.Plan as of;
 
+use columns::Table;
 use frames::TERM_ROOM;
 use kinds::{CALL, EXTERNAL, INTERNAL, PARALLEL, PREFIX, SEQUENCE, SKIP, STOP};
 pub use laying::lay_out;
@@ -18,7 +20,29 @@ pub const PLAN_WORDS: usize = 4096;
 // An array of its room, with no heap.
 pub type Plan = [u16; PLAN_WORDS];
 
-// The kinds of terms, as a plan's words have them. `usize::from` does not stand in a constant.
+// A checked table with its plan, as a run is of. A host keeps it as C lays it out.
+#[repr(C)]
+#[derive(Drop)]
+pub struct Show {
+    pub table: Table,
+    pub plan: Plan,
+}
+
+impl Show {
+    // A table of no term, with a plan of none.
+    pub fn new() -> Show
+        ensures table_of_none { held result.table ≡ no_terms }
+        ensures plan_of_none { result.plan ≡ of.no_plan }
+    {
+        Show {
+            table: Table::new(),
+            plan: [0; PLAN_WORDS],
+        }
+    }
+}
+
+// The kinds of terms, as a plan's words have them. Words and no enum: a plan that C lends may have any, and `kind_of` answers with
+// what stands there. `usize::from` does not stand in a constant.
 pub const CALL_WORD: usize = CALL as usize;
 
 pub const PREFIX_WORD: usize = PREFIX as usize;

@@ -5,26 +5,16 @@
 
 mod telling;
 
-use columns::Payloads;
-use control::{Counters, NODE_WORDS, Nodes, TRACK_WORDS, Track};
+use control::Run;
 use inputs::{input_room, table_and_script};
-use loaded::Table;
-use plans::{PLAN_WORDS, Plan, lay_out};
+use plans::{Show, lay_out};
 use playing::play;
 use runs::start;
 use scripts::{DIGIT_ROOM, SCRIPT_TEXT_ROOM};
 use standard_input::read_full;
 use std::io;
+use tables::check;
 use telling::tell_run;
-
-// A run, with the plan of its table.
-#[derive(Drop)]
-struct Run {
-    plan: Plan,
-    nodes: Nodes,
-    track: Track,
-    counters: Counters,
-}
 
 fn main(rt: HostRuntime) -> io::Result<()> {
     let mut buffer = input_room();
@@ -35,52 +25,33 @@ fn main(rt: HostRuntime) -> io::Result<()> {
 // Checks the table's text, and plays the script behind it.
 fn play_input(rt: &impl Print, input: &[u8]) -> io::Result<()> {
     let (text, script) = table_and_script(input);
-    let mut table = Table::new();
-    match table.check(text) {
+    let mut show = Show::new();
+    match check(text, &mut show.table) {
         Err(_) => Ok(()),
-        Ok(counts) => play_script(rt, script, counts.terms, &table),
+        Ok(counts) => {
+            lay_out(counts.terms, &show.table, &mut show.plan);
+            play_script(rt, script, &show)
+        }
     }
 }
 
-// Plays a script over a table of so many terms, and tells what the run has come to.
-fn play_script(rt: &impl Print, script: &[u8], terms: usize, table: &Table) -> io::Result<()> {
+// Plays a script, and tells what the run has come to.
+fn play_script(rt: &impl Print, script: &[u8], show: &Show) -> io::Result<()> {
     if SCRIPT_TEXT_ROOM < script.len() {
         return Ok(());
     }
-    let mut run = Run {
-        plan: [0; PLAN_WORDS],
-        nodes: [0; NODE_WORDS],
-        track: [0; TRACK_WORDS],
-        counters: [0; 8],
-    };
-    lay_out(
-        terms,
-        &table.kinds,
-        &table.payloads,
-        &table.after,
-        &table.roots,
-        &mut run.plan,
-    );
-    start(&mut run.nodes, &mut run.track, &mut run.counters);
-    play_lines(script, &table.payloads, &mut run);
-    tell_run(rt, table, &run)
+    let mut run = Run::new();
+    start(&mut run);
+    play_lines(script, show, &mut run);
+    tell_run(rt, show, &run)
 }
 
 // Plays lines up to the first that is no step; a script has no more lines than bytes.
-fn play_lines(script: &[u8], sets: &Payloads, run: &mut Run) {
+fn play_lines(script: &[u8], show: &Show, run: &mut Run) {
     let mut digits = [0u8; DIGIT_ROOM];
     let mut at = 0;
     for _ in 0..SCRIPT_TEXT_ROOM {
-        let Ok(Some(step)) = play(
-            script,
-            at,
-            &mut digits,
-            &run.plan,
-            sets,
-            &mut run.nodes,
-            &mut run.track,
-            &mut run.counters,
-        ) else {
+        let Ok(Some(step)) = play(script, at, &mut digits, show, run) else {
             return;
         };
         at = step.next;

@@ -1,29 +1,36 @@
 // The inside of a run, told in lines of hexadecimal: what is offered, the counters, and the track by its references.
 ghost use Rattle.std.specs.Prelude.{◌≤◌};
 
-use crate::Run;
-use control::{LABEL, MEETINGS_FROM, Track, track_word, word};
+use columns::Table;
+use control::{LABEL, MEETINGS_FROM, Run, Track, track_word, word};
 use counting::{ARCS, FRESH, MEETINGS, REFERENCE};
 use frames::PATH_ROOM;
-use loaded::Table;
+use lines::part_of;
 use marks::literal_of;
 use offers::offers;
-use places::{Literal, Placed};
+use places::{Literal, Placed, place};
+use plans::Show;
 use std::io;
 
 // Tells what a run has come to.
-pub fn tell_run(rt: &impl Print, table: &Table, run: &Run) -> io::Result<()> {
-    tell_offers(rt, table, run)?;
+pub fn tell_run(rt: &impl Print, show: &Show, run: &Run) -> io::Result<()> {
+    tell_offers(rt, show, run)?;
     tell_counters(rt, run)?;
-    tell_nodes(rt, table, run)?;
-    tell_pairs(rt, "52", 0, run.counters[ARCS], &run.track)?;
-    tell_pairs(rt, "53", MEETINGS_FROM, run.counters[MEETINGS], &run.track)
+    tell_nodes(rt, &show.table, run)?;
+    tell_pairs(rt, "52", 0, run.counters[ARCS], &run.words.track)?;
+    tell_pairs(
+        rt,
+        "53",
+        MEETINGS_FROM,
+        run.counters[MEETINGS],
+        &run.words.track,
+    )
 }
 
 // `42 tt kk` and the set of events offered.
-fn tell_offers(rt: &impl Print, table: &Table, run: &Run) -> io::Result<()> {
+fn tell_offers(rt: &impl Print, show: &Show, run: &Run) -> io::Result<()> {
     let reference = usize::from(run.counters[REFERENCE]);
-    let offered = offers(reference, &run.plan, &table.payloads, &run.nodes);
+    let offered = offers(reference, show, &run.words.nodes);
     let tau = u8::from(offered.tau);
     let tick = u8::from(offered.tick);
     let events = offered.events;
@@ -42,7 +49,7 @@ fn tell_counters(rt: &impl Print, run: &Run) -> io::Result<()> {
 // `51 iiii dd ll path`: each labelled reference with its place.
 fn tell_nodes(rt: &impl Print, table: &Table, run: &Run) -> io::Result<()> {
     for n in 0..usize::from(run.counters[FRESH]) {
-        let mark = word(n, LABEL, &run.nodes);
+        let mark = word(n, LABEL, &run.words.nodes);
         if mark != 0 {
             print!(rt; "51{n:04x}")?;
             tell_place(rt, literal_of(mark), table)?;
@@ -54,17 +61,17 @@ fn tell_nodes(rt: &impl Print, table: &Table, run: &Run) -> io::Result<()> {
 
 fn tell_place(rt: &impl Print, literal: Literal, table: &Table) -> io::Result<()> {
     let mut path = [0u8; PATH_ROOM];
-    match table.place(literal, &mut path) {
+    match place(literal, table, &mut path) {
         Some(Placed { definition, length }) => {
             print!(rt; "{definition:02x}{length:02x}")?;
-            tell_path(rt, &path, length)
+            tell_path(rt, part_of(&path, 0, length))
         }
         None => print!(rt; "nowhere"),
     }
 }
 
-fn tell_path(rt: &impl Print, path: &[u8], count: usize) -> io::Result<()> {
-    for digit in path.iter().take(count) {
+fn tell_path(rt: &impl Print, path: &[u8]) -> io::Result<()> {
+    for digit in path {
         print!(rt; "{digit:02x}")?;
     }
     Ok(())

@@ -5,15 +5,14 @@ ghost use Rattle.std.specs.Prelude.{◌≡◌, drop};
 ghost use Rattle.std.proofs.Math.Seq as seq;
 ghost use Rattle.scripts.specs.Script.{left};
 ghost use Rattle.lines.specs.Line.{lines};
-ghost use Rattle.runs.specs.words.Held.{lent};
+ghost use Rattle.runs.specs.words.Held.{words_of};
 ghost use Rattle.playing.specs.Played.{played_told};
 ghost use Rattle.playing.specs.code.Playing as spec;
 ghost use Rattle.playing.specs.words.Account.{Plays};
 
-use columns::Payloads;
-use control::{Counters, Nodes, Track};
+use control::Run;
 use lines::Refusal;
-use plans::Plan;
+use plans::Show;
 use rules::Event;
 use runs::step;
 use scripts::{Address, Digits, next_step};
@@ -32,26 +31,23 @@ pub fn play(
     text: &[u8],
     at: usize,
     digits: &mut Digits,
-    plan: &Plan,
-    sets: &Payloads,
-    nodes: &mut Nodes,
-    track: &mut Track,
-    counters: &mut Counters,
+    show: &Show,
+    run: &mut Run,
 ) -> Result<Option<PlayedStep>, Refusal>
-    ensures counters_after { spec.with_played (played_told result) nodes.new track.new counters.new
-        ≡ spec.played plan.now sets.now nodes.old track.old
-        counters.old at (lines (drop at text.now)) digits.old }
+    ensures counters_after { spec.with_played (played_told result) run.new.words.nodes run.new.words.track run.new.counters
+        ≡ spec.played show.now.plan show.now.table.payloads run.old.words.nodes run.old.words.track
+        run.old.counters at (lines (drop at text.now)) digits.old }
     ensures digits_after { digits.new
         ≡ seq.sets digits.old 0 (left (lines (drop at text.now))) }
-    ensures plays { Plays plan.now sets.now digits.old at
+    ensures plays { Plays show.now.plan show.now.table.payloads digits.old at
         (lines (drop at text.now))
-        (lent nodes.old track.old counters.old) (played_told result)
-        (lent nodes.new track.new counters.new) }
+        (words_of run.old) (played_told result)
+        (words_of run.new) }
 {
     let asked = next_step(text, at, digits)?;
     let Some(Address { count, next }) = asked else {
         return Ok(None);
     };
-    let event = step(count, digits, plan, sets, nodes, track, counters)?;
+    let event = step(count, digits, show, run)?;
     Ok(Some(PlayedStep { event, next }))
 }

@@ -1,18 +1,12 @@
 -- What the marks of nodes in number order tell, where each has a place that is its: the place, and of a prefix's event the
 -- event. A mark is 0 where there is no node, 1 at the left-hand side of definition 00, and else that of the literal at its
 -- place, whose number the layout and the columns have there. Assumes nothing.
-use Prim.Native.Nat.{ℕ, zero, suc, ◌+◌, ◌*◌, ◌≤◌, ◌<◌}
-use mathlib.Core.Path.{subst, ◌≡◌, refl, sym, ap, ap₂, ◌∙◌}
-use mathlib.Core.Bool.{Bool, true, false, ◌&&◌}
-use mathlib.Core.List.{List}
-use mathlib.Core.Logic.{⊎_elim}
-use mathlib.Core.Option.{Option, none, some}
-use native.Mathlib.Omega.{arith}
-use native.Mathlib.Nat.{add-zero, zero-add}
-use lib.ListN.{length, get_or, get_elem?, replicate, get_or-eq_default}
-use lib.Seq.{sets}
-use lib.Dec.{eqb, ltb}
-use borrow.Author.Tests.{eqb-true, eq-eqb, ne_eqb, ltb-true, ltb-false}
+use Rattle.std.proofs.Common.{ℕ, zero, suc, ◌+◌, ◌*◌, ◌≤◌, ◌<◌, subst, ◌≡◌, refl, sym, ap, ap₂, ◌∙◌, Bool}
+use Rattle.std.proofs.Common.{true, false, ◌&&◌, List, ⊎_elim, arith, add-zero, zero-add, length, get_or}
+use Rattle.std.proofs.Common.{replicate, eqb, ltb, eqb-true, eq-eqb, ne_eqb, ltb-true, ltb-false}
+use Rattle.std.proofs.lemmas.List.Edits.{sets}
+use Rattle.std.proofs.Math.Option.{Option, none, some}
+use Rattle.std.proofs.Math.ListN.{get_elem?, get_or-eq_default}
 use Rattle.lines.specs.Line.{choose}
 use Rattle.lines.specs.Judging.{accepted}
 use Rattle.lines.proofs.Digits.{both}

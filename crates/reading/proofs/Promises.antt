@@ -10,9 +10,9 @@ use Rattle.control.specs.words.Words.{track_words}
 use Rattle.terms.specs.Term.{definitions_of}
 use Rattle.graphs.specs.Graph.{Graph}
 use Rattle.graphs.specs.Shape as Shape
-use Rattle.lines.specs.Refusal.{number}
 use Rattle.lines.specs.declared.RefusedAt.{RefusedAt}
-use Rattle.lines.proofs.Refusals.{number_once}
+use Rattle.lines.specs.Refusal.{number}
+use Rattle.lines.proofs.Refusals.{refused_once}
 use Rattle.links.specs.declared.GraphCounts.{GraphCounts}
 use Rattle.links.specs.words.Columns.{counts_of}
 use Rattle.links.proofs.Listed.{arcs_back, meetings_back}
@@ -93,10 +93,8 @@ read_told_once (Ok c) (Err e) same = let z : ◌≡◌ {A = ℕ} 0 1 = cc in abs
 read_told_once (Err e) (Ok c) same = let z : ◌≡◌ {A = ℕ} 0 1 = cc in absurd (omega arith)
 read_told_once (Err e) (Err f) same =
     let numbers : number e.refusal ≡ number f.refusal = cc in
-    let refusals = number_once e.refusal f.refusal numbers in
     let line : e.line ≡ f.line = cc in
-    let at : e ≡ f = rw (refusals, line) in
-    ap (λ q. Err q) at
+    ap (λ q. Err q) (refused_once e f numbers line)
 
 -- so all is as it should be afterwards
 module _ (ks xs rs : List ℕ) where

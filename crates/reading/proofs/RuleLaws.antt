@@ -1,14 +1,9 @@
 -- The reader's rules by marks are the document's. Marks that are not 0 say that nodes come in number order at places that
 -- are theirs; then the marks tell the graph's labels, so that each further rule by marks is the rule by places. A text that
 -- says a graph keeps to the rooms, so reading by marks comes to what the document says of the text. Assumes nothing.
-use Prim.Native.Nat.{ℕ, suc, ◌+◌, ◌≤◌, ◌<◌}
-use mathlib.Core.Path.{◌≡◌, refl, ap, ap₂}
-use mathlib.Core.Bool.{Bool, true, false, ◌&&◌, and_assoc}
-use mathlib.Core.List.{List, [], ◌∷◌}
-use native.Mathlib.Omega.{arith}
-use lib.ListN.{length, replicate}
-use lib.Dec.{leb, ltb, eqb}
-use borrow.Author.Tests.{ltb-true, eqb-true}
+use Rattle.std.proofs.Common.{ℕ, suc, ◌+◌, ◌≤◌, ◌<◌, ◌≡◌, refl, ap, ap₂, Bool, true, false, ◌&&◌, List, []}
+use Rattle.std.proofs.Common.{◌∷◌, arith, length, replicate, leb, ltb, eqb, ltb-true, eqb-true}
+use Rattle.std.proofs.Math.Bool.{and_assoc}
 use Rattle.lines.specs.Line.{choose}
 use Rattle.lines.specs.Judging.{Judged, accepted, refused}
 use Rattle.lines.proofs.Digits.{both}

@@ -2,14 +2,14 @@
 // refusal. All that it tells comes from the proved libraries; here it is only read and written.
 #![tactic(auto)]
 
-use control::{REFERENCES, TRACK_WORDS, Track};
+use columns::Table;
 use inputs::table_and_script;
 use lines::{Refusal, RefusedAt, part_of};
-use links::{Column, GraphCounts, SIDE_WORDS};
-use loaded::Table;
+use links::{Graph, GraphCounts, Work};
 use reading::read_track;
 use standard_input::read_full;
 use std::io;
+use tables::check;
 use writing::write;
 
 // A table and a saved track, and one byte more, so that an input over this program's room is seen to be.
@@ -31,7 +31,7 @@ fn main(rt: HostRuntime) -> io::Result<()> {
 fn reread_input(rt: &impl Print, input: &[u8]) -> io::Result<()> {
     let (text, saved) = table_and_script(input);
     let mut table = Table::new();
-    match table.check(text) {
+    match check(text, &mut table) {
         Err(refused) => tell_refusal(rt, refused),
         Ok(counts) => reread_track(rt, saved, counts.definitions, &table),
     }
@@ -44,33 +44,11 @@ fn reread_track(
     definitions: usize,
     table: &Table,
 ) -> io::Result<()> {
-    let mut labels = [0u16; REFERENCES];
-    let mut graph = [0u16; TRACK_WORDS];
-    let mut own_labels = [0u16; REFERENCES];
-    let mut own_graph = [0u16; TRACK_WORDS];
-    let mut sides = [0u16; SIDE_WORDS];
-    let mut pending = [0u16; SIDE_WORDS];
-    let mut numbers = [0u16; REFERENCES];
-    let mut walked = [0u16; REFERENCES];
-    let answer = read_track(
-        saved,
-        definitions,
-        &table.kinds,
-        &table.payloads,
-        &table.after,
-        &table.roots,
-        &mut labels,
-        &mut graph,
-        &mut own_labels,
-        &mut own_graph,
-        &mut sides,
-        &mut pending,
-        &mut numbers,
-        &mut walked,
-    );
-    match answer {
+    let mut graph = Graph::new();
+    let mut work = Work::new();
+    match read_track(saved, definitions, table, &mut graph, &mut work) {
         Err(refused) => tell_refusal(rt, refused),
-        Ok(counts) => write_track(rt, counts, &labels, &graph, table),
+        Ok(counts) => write_track(rt, counts, &graph, table),
     }
 }
 
@@ -78,22 +56,11 @@ fn reread_track(
 fn write_track(
     rt: &impl Print,
     counts: GraphCounts,
-    labels: &Column,
-    graph: &Track,
+    graph: &Graph,
     table: &Table,
 ) -> io::Result<()> {
     let mut text = [0u8; TRACK_ROOM];
-    let saved = write(
-        counts,
-        labels,
-        graph,
-        &table.kinds,
-        &table.owners,
-        &table.after,
-        &table.roots,
-        &mut text,
-    );
-    match saved {
+    match write(counts, graph, table, &mut text) {
         Err(_) => tell_refusal(rt, Refusal::SliceTooShort.at(0)),
         Ok(length) => rt.write_all(part_of(&text, 0, length)),
     }

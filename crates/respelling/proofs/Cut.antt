@@ -1,15 +1,11 @@
 -- An input and the same input respelled are cut at the same line: the lines of the table's text and those of the script's are the
 -- input's own, and a line respelled starts `1f` or `1F` exactly where it did. Assumes nothing.
-use Prim.Native.Nat.{ℕ, ◌≤◌, ◌+◌}
-use mathlib.Core.Path.{◌≡◌, refl, sym, ap, ap₂, ◌∙◌}
-use mathlib.Core.Bool.{Bool, true, false, ◌&&◌, ◌||◌}
-use mathlib.Core.List.{List, [], ◌∷◌, ◌++◌, map, append-nil, append_assoc}
-use mathlib.Core.Option.{Option, none, some}
-use native.Mathlib.Omega.{arith}
-use lib.ListN.{length, take, drop, length-append}
-use lib.Dec.{leb, eqb}
-use lib.Seq.{take-append_seam, take-append-add, drop-append_seam, drop-append-add}
-use borrow.Author.Tests.{leb-true, eqb-true, eqb-false, ne_eqb}
+use Rattle.std.proofs.Common.{ℕ, ◌≤◌, ◌+◌, ◌≡◌, refl, sym, ap, ap₂, ◌∙◌, Bool, true, false, ◌&&◌, ◌||◌, List}
+use Rattle.std.proofs.Common.{[], ◌∷◌, ◌++◌, map, append-nil, append_assoc, arith, length, take, drop}
+use Rattle.std.proofs.Common.{length-append, leb, eqb, leb-true, eqb-true, ne_eqb}
+use Rattle.std.proofs.lemmas.Bool.{eqb-false}
+use Rattle.std.proofs.Math.Option.{Option, none, some}
+use Rattle.std.proofs.Math.Seq.{take-append_seam, take-append-add, drop-append_seam, drop-append-add}
 use Rattle.lines.specs.Line.{choose, LF, Raw, full, open_ended, lines, characters}
 use Rattle.lines.proofs.Digits.{both}
 use Rattle.desk_lines.specs.DeskLine.{small, strict, desk_frame}

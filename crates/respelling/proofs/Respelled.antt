@@ -1,12 +1,8 @@
 -- Texts whose lines are read alike get the same answer, as tables, as scripts, and as whole inputs respelled: so no converter is
 -- needed in front of the programs. Rooms count the bytes as they stand, so each text has to be within its own; respelled it is
 -- then too, since it is no longer. Assumes nothing.
-use Prim.Native.Nat.{ℕ, ◌+◌, ◌≤◌}
-use mathlib.Core.Path.{◌≡◌, refl, ap, ◌∙◌}
-use mathlib.Core.List.{List, [], ◌∷◌, map}
-use native.Mathlib.Omega.{arith}
-use lib.ListN.{length}
-use borrow.Author.Tests.{le-leb}
+use Rattle.std.specs.Prelude.{ℕ, ◌+◌, ◌≤◌, ◌≡◌, refl, List, [], ◌∷◌, map, length}
+use Rattle.std.proofs.Common.{ap, ◌∙◌, arith, le-leb}
 use Rattle.lines.specs.Line.{Raw, lines}
 use Rattle.lines.specs.Judging.{Judged, accepted, refused}
 use Rattle.lines.proofs.Judging.{judged_alike}

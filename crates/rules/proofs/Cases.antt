@@ -1,13 +1,8 @@
 -- Document 01's runs A to H and K, and what document 02's W2 says of a status, played by computation: events, status,
 -- how many nodes, saved arcs, arcs made and meetings the track has, the place of reference 2, which C speaks of, and
 -- the refusal. One statement for all. Assumes nothing.
-use Prim.Native.Nat.{ℕ, suc}
-use mathlib.Core.Path.{◌≡◌, refl}
-use mathlib.Core.Bool.{Bool, false, ◌&&◌, ◌||◌}
-use mathlib.Core.List.{List, [], ◌∷◌, ◌++◌}
-use mathlib.Core.Option.{Option, none, some}
-use lib.ListN.{length}
-use lib.Dec.{eqb}
+use Rattle.std.proofs.Common.{ℕ, suc, ◌≡◌, refl, Bool, false, ◌&&◌, ◌||◌, List, [], ◌∷◌, ◌++◌, length, eqb}
+use Rattle.std.proofs.Math.Option.{Option, none, some}
 use Rattle.lines.specs.Line.{choose}
 use Rattle.terms.specs.Term.{call, SKIP, STOP, external, sequence, parallel, Term, leaf, prefix, binary}
 use Rattle.places.specs.Place.{Place}

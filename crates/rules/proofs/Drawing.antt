@@ -1,10 +1,7 @@
 -- Each step draws: the next fresh reference behind a derivation is larger than before it. A rule without premises draws
 -- at least one, and what is done around a premise, entering a side or starting one, takes none back. Assumes nothing.
-use Prim.Native.Nat.{ℕ, ◌≤◌, ◌<◌}
-use mathlib.Core.Path.{◌≡◌, sym}
-use mathlib.Core.List.{List}
-use mathlib.Core.Option.{Option, none, some}
-use native.Mathlib.Omega.{arith}
+use Rattle.std.proofs.Common.{ℕ, ◌≤◌, ◌<◌, ◌≡◌, sym, List, arith}
+use Rattle.std.proofs.Math.Option.{Option, none, some}
 use Rattle.terms.specs.Term.{Term}
 use Rattle.places.specs.Place.{Place}
 use Rattle.rules.specs.declared.Event.{Event}

@@ -4,10 +4,8 @@
 -- are not in the text that we have: what is held against the report is what its sentences say of them. No
 -- number differs; of Fig. 6 they have none, so that its numbers are ours alone. Nodes and arcs stand in the
 -- order made. Assumes nothing.
-use Prim.Native.Nat.{ℕ}
-use mathlib.Core.Path.{◌≡◌, refl}
-use mathlib.Core.List.{List, [], ◌∷◌, map}
-use mathlib.Core.Option.{none, some}
+use Rattle.std.proofs.Common.{ℕ, ◌≡◌, refl, List, [], ◌∷◌, map}
+use Rattle.std.proofs.Math.Option.{none, some}
 use Rattle.terms.specs.Term.{call, SKIP, STOP, external, parallel, Term, leaf, prefix, binary}
 use Rattle.places.specs.Place.{Place, left_path}
 use Rattle.sets.specs.EventSet.{member}

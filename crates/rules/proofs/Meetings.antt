@@ -4,15 +4,13 @@
 -- and these it labels with places of the event that it shows; so over a run no more often than the product of
 -- how often each is labelled, which is at most 1. A prefix of control stands where the table has it. Assumes
 -- nothing.
-use Prim.Native.Nat.{ℕ, zero, suc, ◌+◌, ◌*◌, ◌≤◌, ◌<◌}
-use mathlib.Core.Path.{◌≡◌, refl, sym, subst, ap, ◌∙◌}
+use Rattle.std.proofs.Common.{ℕ, zero, suc, ◌+◌, ◌*◌, ◌≤◌, ◌<◌, ◌≡◌, refl, sym, subst, ap, ◌∙◌, List, [], ◌∷◌}
+use Rattle.std.proofs.Common.{◌++◌, ◌⊎◌, inl, inr, ⊎_elim, arith, add_comm, add_assoc, zero-mul, mul-zero}
+use Rattle.std.proofs.Common.{mul-add, add-mul, mul_comm, mul-le-mul}
 use mathlib.Core.List.Memᴰ
-use mathlib.Core.List.{List, [], ◌∷◌, ◌++◌, Memᴰ}
-use mathlib.Core.Option.{Option, none, some}
-use mathlib.Core.Logic.{◌⊎◌, inl, inr, ⊎_elim}
-use native.Mathlib.Omega.{arith}
-use native.Mathlib.Nat.{add_comm, add_assoc, zero-mul, mul-zero, mul-add, add-mul, mul_comm, mul-le-mul}
-use lib.ListN.{get_elem?}
+use mathlib.Core.List.{Memᴰ}
+use Rattle.std.proofs.Math.Option.{Option, none, some}
+use Rattle.std.proofs.Math.ListN.{get_elem?}
 use Rattle.terms.specs.Term.{Operator, external, parallel, Term, size}
 use Rattle.terms.specs.Term as Term
 use Rattle.terms.proofs.Held.{size_some}

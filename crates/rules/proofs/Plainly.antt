@@ -1,12 +1,7 @@
 -- What the plain rules have of the stripped control, by its offers: ✓ and events exactly as offered, since what shows
 -- them is no STOP step; and τ exactly as `plain_τ` says, by induction on the control. And where there is a STOP step.
 -- Assumes nothing.
-use Prim.Native.Nat.{ℕ}
-use mathlib.Core.Path.{◌≡◌, refl, sym, ap, subst, ◌∙◌}
-use mathlib.Core.Bool.{Bool, true, ◌||◌}
-use mathlib.Core.List.{List}
-use mathlib.Core.Logic.{⊎_elim}
-use native.Mathlib.Omega.{arith}
+use Rattle.std.proofs.Common.{ℕ, ◌≡◌, refl, sym, ap, subst, ◌∙◌, Bool, true, ◌||◌, List, ⊎_elim, arith}
 use Rattle.terms.specs.Term.{call, SKIP, STOP, Term}
 use Rattle.rules.specs.declared.Event.{Event}
 use Rattle.rules.specs.declared.Event.TheVariants.{Tau as τ, Tick as ✓}

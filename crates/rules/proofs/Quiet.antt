@@ -1,9 +1,7 @@
 -- A step that shows τ or ✓ has no event nodes: the report's Δ is empty after it, as its rules for choices,
 -- sequences and ends write. Each rule passes the nodes of a step on only with the step's own event.
 -- Assumes nothing.
-use Prim.Native.Nat.{ℕ}
-use mathlib.Core.Path.{◌≡◌, refl, sym, subst}
-use mathlib.Core.List.{List, []}
+use Rattle.std.proofs.Common.{ℕ, ◌≡◌, refl, sym, subst, List, []}
 use Rattle.terms.specs.Term.{Term}
 use Rattle.rules.specs.declared.Event.{Event}
 use Rattle.rules.specs.declared.Event.TheVariants.{Tau as τ, Tick as ✓, Visible as visible}

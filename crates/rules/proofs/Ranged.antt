@@ -3,13 +3,9 @@
 -- right-hand side, and control starts as a call of definition 00. So its events are among the table's, a status
 -- says of every run of a checked table what it says of a control with such events, and the table has every
 -- definition that control calls. Assumes nothing.
-use Prim.Native.Nat.{ℕ, zero, suc, ◌<◌}
-use mathlib.Core.Path.{◌≡◌, refl, subst}
-use mathlib.Core.List.{List, [], ◌∷◌}
-use mathlib.Core.Option.{Option, none, some}
-use mathlib.Core.Logic.{◌↔◌}
-use native.Mathlib.Omega.{arith}
-use lib.ListN.{length, get_elem?}
+use Rattle.std.proofs.Common.{ℕ, zero, suc, ◌<◌, ◌≡◌, refl, subst, List, [], ◌∷◌, ◌↔◌, arith, length}
+use Rattle.std.proofs.Math.Option.{Option, none, some}
+use Rattle.std.proofs.Math.ListN.{get_elem?}
 use Rattle.lines.specs.Judging as Judging
 use Rattle.tables.specs.Table.{Sofar, judged}
 use Rattle.terms.specs.Term.{call, SKIP, STOP, Operator, external, parallel, Term, LeafWithin, Within}

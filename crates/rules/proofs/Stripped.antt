@@ -1,13 +1,10 @@
 -- Fig. 7 with tracking stripped is Fig. 3 and the STOP step. By induction over the derivation a tracked step is
 -- a plain one, or a τ that changes nothing; by induction over the process every plain step has an address, which
 -- serves wherever the process stands. A rule around a side's step is one law for both sides. Assumes nothing.
-use Prim.Native.Nat.{ℕ}
-use mathlib.Core.Path.{◌≡◌, refl, sym, ap, ap₂, ◌∙◌}
-use mathlib.Core.Bool.{Bool, true}
-use mathlib.Core.List.{List, ◌∷◌, ◌++◌}
-use mathlib.Core.Option.{Option, none, some}
-use mathlib.Core.Logic.{◌⊎◌, inl, inr}
-use lib.ListN.{get_elem?}
+use Rattle.std.specs.Prelude.{ℕ, ◌≡◌, refl, Bool, true, List, ◌∷◌, ◌++◌, ◌⊎◌}
+use Rattle.std.proofs.Common.{sym, ap, ap₂, ◌∙◌, inl, inr}
+use Rattle.std.proofs.Math.Option.{Option, none, some}
+use Rattle.std.proofs.Math.ListN.{get_elem?}
 use Rattle.terms.specs.Term.{call, SKIP, Operator, external, parallel, Term}
 use Rattle.terms.specs.Term as Term
 use Rattle.places.specs.Place.{Place}

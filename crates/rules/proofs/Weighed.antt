@@ -2,15 +2,9 @@
 -- often a part stands there, or is labelled there, and how many arcs lead from there to an Ω. New arcs lead only
 -- to references that are drawn for them, and ended sides hand on the arcs that they have, so no scale gains by
 -- them. `Parents` weighs the rules. Assumes nothing.
-use Prim.Native.Nat.{ℕ, zero, suc, ◌+◌, ◌≤◌}
-use mathlib.Core.Path.{◌≡◌, refl, ap}
-use mathlib.Core.Bool.{Bool, true, false}
-use mathlib.Core.List.{List, [], ◌∷◌, ◌++◌}
-use mathlib.Core.Option.{Option, none, some}
-use mathlib.Core.Logic.{◌⊎◌, inl, inr}
-use native.Mathlib.Omega.{arith}
-use lib.Dec.{eqb}
-use borrow.Author.Tests.{eqb-true, eq-eqb, ne_eqb}
+use Rattle.std.proofs.Common.{ℕ, zero, suc, ◌+◌, ◌≤◌, ◌≡◌, refl, ap, Bool, true, false, List, [], ◌∷◌, ◌++◌}
+use Rattle.std.proofs.Common.{◌⊎◌, inl, inr, arith, eqb, eqb-true, eq-eqb, ne_eqb}
+use Rattle.std.proofs.Math.Option.{Option, none, some}
 use Rattle.lines.specs.Line.{choose}
 use Rattle.terms.specs.Term.{call, SKIP, STOP, external, parallel, Term}
 use Rattle.terms.specs.Term as Term

@@ -10,12 +10,11 @@ use answers::{
     DONE, Head, RUN_STAMP, cursor_behind, of_offers, of_played, of_refusal, of_status, of_step,
     unready,
 };
-use columns::Payloads;
-use control::{Counters, Nodes, Track};
+use control::Run;
 use counting::REFERENCE;
 use lines::Refusal;
 use offers::offers;
-use plans::Plan;
+use plans::Show;
 use playing::play;
 use runs::{start, step};
 use scripts::{DIGIT_ROOM, Digits};
@@ -23,16 +22,11 @@ use status::status_at;
 use telling::put_copy;
 
 // Starts a run in a run's block.
-pub fn start_parts<'b>(
-    stamp: &'b mut usize,
-    nodes: &'b mut Nodes,
-    track: &'b mut Track,
-    counters: &'b mut Counters,
-)
-    ensures { host.with_start stamp.new nodes.new track.new counters.new
+pub fn start_parts<'b>(stamp: &'b mut usize, run: &'b mut Run)
+    ensures { host.with_start stamp.new run.new.words.nodes run.new.words.track run.new.counters
         ≡ host.started }
 {
-    start(nodes, track, counters);
+    start(run);
     *stamp = RUN_STAMP;
 }
 
@@ -40,17 +34,14 @@ pub fn start_parts<'b>(
 pub fn step_parts<'s, 'b>(
     address: &'s [u8],
     head: &'b Head,
-    plan: &'b Plan,
-    sets: &'b Payloads,
+    show: &'b Show,
     stamp: &'b usize,
     digits: &'b mut Digits,
-    nodes: &'b mut Nodes,
-    track: &'b mut Track,
-    counters: &'b mut Counters,
+    run: &'b mut Run,
 ) -> u32
-    ensures { host.with_run result digits.new nodes.new track.new counters.new
-        ≡ host.stepped head.now stamp.now plan.now sets.now
-        digits.old nodes.old track.old counters.old
+    ensures { host.with_run result digits.new run.new.words.nodes run.new.words.track run.new.counters
+        ≡ host.stepped head.now stamp.now show.now.plan show.now.table.payloads
+        digits.old run.old.words.nodes run.old.words.track run.old.counters
         address.now }
 {
     let unready = unready(head[0], *stamp);
@@ -62,7 +53,7 @@ pub fn step_parts<'s, 'b>(
         return of_refusal(Refusal::NoDerivation.number());
     }
     put_copy(address, count, 0, digits);
-    of_step(step(count, digits, plan, sets, nodes, track, counters))
+    of_step(step(count, digits, show, run))
 }
 
 // Plays the line of a script that begins at the cursor, which goes behind an accepted one; tells the event, the refusal, or
@@ -71,18 +62,15 @@ pub fn play_parts<'s, 'n, 'b>(
     script: &'s [u8],
     at: &'n mut usize,
     head: &'b Head,
-    plan: &'b Plan,
-    sets: &'b Payloads,
+    show: &'b Show,
     stamp: &'b usize,
     digits: &'b mut Digits,
-    nodes: &'b mut Nodes,
-    track: &'b mut Track,
-    counters: &'b mut Counters,
+    run: &'b mut Run,
 ) -> u32
-    ensures { host.with_line result at.new digits.new nodes.new track.new
-        counters.new
-        ≡ host.played head.now stamp.now plan.now sets.now
-        digits.old nodes.old track.old counters.old
+    ensures { host.with_line result at.new digits.new run.new.words.nodes run.new.words.track
+        run.new.counters
+        ≡ host.played head.now stamp.now show.now.plan show.now.table.payloads
+        digits.old run.old.words.nodes run.old.words.track run.old.counters
         at.old (lines (drop at.old script.now)) }
 {
     let unready = unready(head[0], *stamp);
@@ -90,7 +78,7 @@ pub fn play_parts<'s, 'n, 'b>(
         return unready;
     }
     let from = *at;
-    let played = play(script, from, digits, plan, sets, nodes, track, counters);
+    let played = play(script, from, digits, show, run);
     *at = cursor_behind(played, from);
     of_played(played)
 }
@@ -99,40 +87,31 @@ pub fn play_parts<'s, 'n, 'b>(
 pub fn offers_parts<'n, 'b>(
     events: &'n mut u64,
     head: &'b Head,
-    plan: &'b Plan,
-    sets: &'b Payloads,
+    show: &'b Show,
     stamp: &'b usize,
-    nodes: &'b Nodes,
-    counters: &'b Counters,
+    run: &'b Run,
 ) -> u32
     ensures { host.with_events result events.new
-        ≡ host.offers head.now stamp.now plan.now sets.now
-        nodes.now counters.now events.old }
+        ≡ host.offers head.now stamp.now show.now.plan show.now.table.payloads
+        run.now.words.nodes run.now.counters events.old }
 {
     let unready = unready(head[0], *stamp);
     if unready != DONE {
         return unready;
     }
-    let offered = offers(usize::from(counters[REFERENCE]), plan, sets, nodes);
+    let offered = offers(usize::from(run.counters[REFERENCE]), show, &run.words.nodes);
     *events = offered.events;
     of_offers(offered)
 }
 
 // Tells the status of a run.
-pub fn status_parts<'b>(
-    head: &'b Head,
-    plan: &'b Plan,
-    sets: &'b Payloads,
-    stamp: &'b usize,
-    nodes: &'b Nodes,
-    counters: &'b Counters,
-) -> u32
-    ensures { result ≡ host.status head.now stamp.now plan.now sets.now
-        nodes.now counters.now }
+pub fn status_parts<'b>(head: &'b Head, show: &'b Show, stamp: &'b usize, run: &'b Run) -> u32
+    ensures { result ≡ host.status head.now stamp.now show.now.plan show.now.table.payloads
+        run.now.words.nodes run.now.counters }
 {
     let unready = unready(head[0], *stamp);
     if unready != DONE {
         return unready;
     }
-    of_status(status_at(usize::from(counters[REFERENCE]), plan, sets, nodes))
+    of_status(status_at(usize::from(run.counters[REFERENCE]), show, &run.words.nodes))
 }

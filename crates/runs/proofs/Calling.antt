@@ -2,7 +2,7 @@
 -- arc to reference 1, where the root of definition 00 rests. Assumes nothing.
 use Rattle.std.proofs.Common.{ℕ, ◌≡◌, refl, sym, ap, subst, ◌∙◌, Bool, true, false, List, [], arith, eqb, eqb-true}
 use Rattle.std.proofs.Math.Option.{Option, none, some, none-ne-some}
-use lib.ListN.{get_elem?}
+use Rattle.std.proofs.Math.ListN.{get_elem?}
 use Rattle.lines.specs.Line.{choose}
 use Rattle.terms.specs.Term.{Term}
 use Rattle.places.specs.Place.{Place, left_path}

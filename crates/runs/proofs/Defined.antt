@@ -2,7 +2,7 @@
 -- starts as a call of the first of them. Assumes nothing.
 use Rattle.std.proofs.Common.{ℕ, ◌<◌, ◌≡◌, refl, List, [], ◌∷◌, arith, length}
 use Rattle.std.proofs.Math.Option.{none}
-use lib.ListN.{get_elem?}
+use Rattle.std.proofs.Math.ListN.{get_elem?}
 use Rattle.terms.specs.Term.{Term}
 use Rattle.rules.specs.Run.{State, Reached}
 use Rattle.rules.proofs.Ranged.{reached_ranged, ranged_calls, Calls}

@@ -1,10 +1,9 @@
 -- What a step leaves of a run: words that go from a state as the report's step of it goes hold the state behind that step.
 -- The counters stay below 65,536, since the step's result has room; reference 0, at which nothing stands, stays as it was.
 -- Assumes nothing.
-use Rattle.std.proofs.Common.{ℕ, ◌≤◌, ◌<◌, ◌≡◌, refl, sym, ap, ◌∙◌, true, false, List, [], ◌∷◌, ◌++◌, arith, length}
-use Rattle.std.proofs.Common.{length-append, ne_eqb}
+use Rattle.std.proofs.Common.{ℕ, ◌≤◌, ◌<◌, ◌≡◌, refl, sym, ap, ◌∙◌, true, false, List, [], ◌∷◌, ◌++◌, arith}
+use Rattle.std.proofs.Common.{length, length-append, ne_eqb, mod-eq_of_lt}
 use Rattle.std.proofs.Math.Option.{none, some}
-use native.Mathlib.Nat.{mod-eq_of_lt}
 use Rattle.terms.specs.Term.{Term}
 use Rattle.rules.specs.Process.{Address, Process, leaf, prefix, internal, split, sequence, Ω, ⊥', cells}
 use Rattle.rules.specs.Step.{Stepped}

@@ -2,10 +2,10 @@
 -- of definition 00. Else it is what stepping's pass makes of the control at the current reference, by `takes` of step_laws;
 -- every run keeps that control ready for it: each reference is drawn and held once, its arcs
 -- climb, the table has what it calls, and what the step comes to has room. Assumes nothing.
-use Rattle.std.proofs.Common.{ℕ, ◌≤◌, ◌<◌, ◌≡◌, refl, sym, subst, ◌∙◌, Bool, true, false, List, [], ◌++◌, arith}
-use Rattle.std.proofs.Common.{length, length-append, eqb, eqb-true}
+use Rattle.std.proofs.Common.{ℕ, ◌≤◌, ◌<◌, ◌≡◌, refl, sym, subst, ◌∙◌, Bool, true, false, List, [], ◌++◌}
+use Rattle.std.proofs.Common.{arith, length, length-append, eqb, eqb-true}
+use Rattle.std.proofs.lemmas.Bool.{eqb-false}
 use Rattle.std.proofs.Math.Option.{some}
-use borrow.Author.Tests.{eqb-false}
 use Rattle.lines.specs.Line.{choose}
 use Rattle.terms.specs.Term.{Term}
 use Rattle.rules.specs.Process.{Address, cells}

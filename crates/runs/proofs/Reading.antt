@@ -1,9 +1,9 @@
 -- The address that digits are: where each of them is a digit, it stands among them, as the weight of a step reads it; and
 -- where there is none, one of them is no digit. By one digit after the other. Assumes nothing.
-use Rattle.std.proofs.Common.{ℕ, zero, suc, ◌+◌, ◌≤◌, ◌<◌, ◌≡◌, refl, ap, ◌∙◌, Bool, true, false, List, [], ◌∷◌}
-use Rattle.std.proofs.Common.{arith, eqb, eqb-true}
+use Rattle.std.proofs.Common.{ℕ, zero, suc, ◌+◌, ◌≤◌, ◌<◌, ◌≡◌, refl, ap, ◌∙◌, Bool, true, false, List, []}
+use Rattle.std.proofs.Common.{◌∷◌, arith, eqb, eqb-true}
+use Rattle.std.proofs.lemmas.Bool.{eqb-false}
 use Rattle.std.proofs.Math.Option.{Option, none, some}
-use borrow.Author.Tests.{eqb-false}
 use Rattle.lines.specs.Line.{choose}
 use Rattle.rules.specs.Process.{Digit, one, two, three, four, Address}
 use Rattle.looking.specs.code.Looking.{digit_at}

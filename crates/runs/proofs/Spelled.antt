@@ -2,12 +2,11 @@
 -- each is read back where it was put. And every address of at most 1,024 digits can be spelled: as the digits of a script's
 -- line, and in front of the array that a step takes; both are read back as itself. Assumes nothing.
 use Rattle.std.specs.Prelude.{ℕ, zero, suc, ◌+◌, ◌/◌, ◌%◌, ◌≤◌, ◌<◌, ◌≡◌, List, [], ◌∷◌}
-use Rattle.std.proofs.Common.{refl, ap, ap₂, ◌∙◌, arith}
-use Rattle.std.proofs.Common.{length, get_or, lt-ltb}
+use Rattle.std.proofs.Common.{refl, ap, ap₂, ◌∙◌, arith, length, get_or, lt-ltb, zero-add, add-zero, add-suc}
+use Rattle.std.proofs.Common.{suc-add}
+use Rattle.std.proofs.lemmas.List.Edits.{sets, sets-eq}
 use Rattle.std.proofs.Math.Option.{some}
-use native.Mathlib.Nat.{zero-add, add-zero, add-suc, suc-add}
-use lib.ListN.{get_or-append}
-use lib.Seq.{sets, sets-eq}
+use Rattle.std.proofs.Math.ListN.{get_or-append}
 use Rattle.scripts.specs.Script.{most, address, asked}
 use Rattle.scripts.proofs.Laws.{Each, asked_written}
 use Rattle.rules.specs.Process.{Digit, one, two, three, four, Address}

@@ -2,7 +2,8 @@
 -- reference 0. Assumes nothing.
 use Rattle.std.proofs.Common.{ℕ, ◌+◌, ◌*◌, ◌≡◌, refl, Bool, true, false, List, arith, get_or, replicate, ltb}
 use Rattle.std.proofs.Common.{ltb-true, ltb-false}
-use lib.ListN.{length-replicate, get_or-replicate, get_or-eq_default}
+use Rattle.std.proofs.lemmas.List.{length-replicate, get_or-replicate}
+use Rattle.std.proofs.Math.ListN.{get_or-eq_default}
 use Rattle.lines.specs.Line.{choose}
 use Rattle.terms.specs.Term.{Term}
 use Rattle.rules.specs.Process.{cells}

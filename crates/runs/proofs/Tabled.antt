@@ -3,7 +3,7 @@
 -- events, and there is one. Assumes nothing.
 use Rattle.std.proofs.Common.{ℕ, ◌<◌, ◌≡◌, List, [], ◌∷◌, arith, length}
 use Rattle.std.proofs.Math.Option.{none}
-use lib.ListN.{get_elem?}
+use Rattle.std.proofs.Math.ListN.{get_elem?}
 use Rattle.lines.specs.Judging.{accepted}
 use Rattle.tables.specs.Table.{Sofar, judged}
 use Rattle.tables.specs.words.Columns.{kinds, payloads, afters, roots}

@@ -1,11 +1,11 @@
 -- The weight that the words of a run come to is that of the report's step from the state that they tell: at the start the
 -- call of definition 00, and else what stands at the current reference, which its words hold. The run's arcs stand in the
 -- track, and no reference is held that is not drawn. Assumes nothing.
-use Rattle.std.proofs.Common.{ℕ, zero, suc, ◌≤◌, ◌≡◌, refl, ap, subst, Bool, true, false, List, [], arith, length}
-use Rattle.std.proofs.Common.{eqb, eqb-true}
+use Rattle.std.proofs.Common.{ℕ, zero, suc, ◌≤◌, ◌≡◌, refl, ap, subst, Bool, true, false, List, [], arith}
+use Rattle.std.proofs.Common.{length, eqb, eqb-true}
+use Rattle.std.proofs.lemmas.Bool.{eqb-false}
 use Rattle.std.proofs.Math.Option.{some}
-use lib.ListN.{get_elem?}
-use borrow.Author.Tests.{eqb-false}
+use Rattle.std.proofs.Math.ListN.{get_elem?}
 use Rattle.lines.specs.Line.{choose}
 use Rattle.terms.specs.Term.{Term}
 use Rattle.rules.specs.Process.{Address, Process, main, cells}

@@ -6,14 +6,13 @@ ghost use Rattle.std.specs.Prelude.{◌≡◌};
 ghost use Rattle.leaves.specs.code.Leaves.{with_words};
 ghost use Rattle.runs.specs.Answer.{answer_told};
 ghost use Rattle.runs.specs.code.Doors as spec;
-ghost use Rattle.runs.specs.words.Held.{lent, Keeps, Begins};
+ghost use Rattle.runs.specs.words.Held.{words_of, Keeps, Begins};
 
-use columns::Payloads;
-use control::{Counters, NODE_WORDS, Nodes, TRACK_WORDS, Track};
+use control::{Counters, NODE_WORDS, Run, TRACK_WORDS, Words};
 use counting::{ARCS, CELLS, REFERENCE, counter, over_room, recount, tally_of};
 use leaves::{Taken, call_start};
 use lines::Refusal;
-use plans::Plan;
+use plans::{Plan, Show};
 use rules::Event;
 use scripts::Digits;
 use stepping::take;
@@ -27,65 +26,50 @@ const CONTROL_LEVELS: usize = 1025;
 const STEP_LEVELS: usize = 2048;
 
 // Starts a run: control is the call of definition 00 at reference 0, and nothing is marked yet.
-pub fn start(nodes: &mut Nodes, track: &mut Track, counters: &mut Counters)
-    ensures nodes_after { nodes.new ≡ spec.fresh_nodes }
-    ensures track_after { track.new ≡ spec.fresh_track }
-    ensures counters_after { counters.new ≡ spec.fresh_counters }
-    ensures begins { Begins (lent nodes.new track.new counters.new) }
+pub fn start(run: &mut Run)
+    ensures nodes_after { run.new.words.nodes ≡ spec.fresh_nodes }
+    ensures track_after { run.new.words.track ≡ spec.fresh_track }
+    ensures counters_after { run.new.counters ≡ spec.fresh_counters }
+    ensures begins { Begins (words_of run.new) }
 {
-    *nodes = [0u16; NODE_WORDS];
-    *track = [0u16; TRACK_WORDS];
-    *counters = [0u16, 1, 1, 0, 0, 0, 0, 0];
+    run.words.nodes = [0u16; NODE_WORDS];
+    run.words.track = [0u16; TRACK_WORDS];
+    run.counters = [0u16, 1, 1, 0, 0, 0, 0, 0];
 }
 
 // Steps a run by the first `count` of the digits, to the event that the step shows. Where the words hold a run of a table's
-// plan, the answer is document 01's, and they hold the run behind it.
-pub fn step(
-    count: usize,
-    digits: &Digits,
-    plan: &Plan,
-    sets: &Payloads,
-    nodes: &mut Nodes,
-    track: &mut Track,
-    counters: &mut Counters,
-) -> Result<Event, Refusal>
-    ensures counters_after { spec.with_answer (answer_told result) nodes.new track.new counters.new
-        ≡ spec.stepped plan.now sets.now count digits.now
-        nodes.old track.old counters.old }
-    ensures keeps { Keeps plan.now sets.now count digits.now
-        (lent nodes.old track.old counters.old) (answer_told result)
-        (lent nodes.new track.new counters.new) }
+// plan, the answer is document 01's, and they hold the run behind it. `looking::digit_at` tells why the count stands beside the
+// digits, here and in `weigh` and `perform`.
+pub fn step(count: usize, digits: &Digits, show: &Show, run: &mut Run) -> Result<Event, Refusal>
+    ensures counters_after { spec.with_answer (answer_told result) run.new.words.nodes run.new.words.track run.new.counters
+        ≡ spec.stepped show.now.plan show.now.table.payloads count digits.now
+        run.old.words.nodes run.old.words.track run.old.counters }
+    ensures keeps { Keeps show.now.plan show.now.table.payloads count digits.now
+        (words_of run.old) (answer_told result)
+        (words_of run.new) }
 {
-    let weighed = weigh(count, digits, plan, sets, nodes, track, counters);
+    let weighed = weigh(count, digits, show, run);
     let w = weighed.ok_or(Refusal::NoDerivation)?;
     if w.at != count {
         return Err(Refusal::NoDerivation);
     }
-    over_room(w, counters)?;
-    let taken = perform(count, digits, plan, nodes, track, counters);
-    recount(taken, counters);
+    over_room(w, &run.counters)?;
+    let taken = perform(count, digits, &show.plan, &run.counters, &mut run.words);
+    recount(taken, &mut run.counters);
     Ok(taken.event)
 }
 
 // Weighs the step that an address names.
-fn weigh(
-    count: usize,
-    digits: &Digits,
-    plan: &Plan,
-    sets: &Payloads,
-    nodes: &Nodes,
-    track: &Track,
-    counters: &Counters,
-) -> Option<Weight>
-    ensures { result ≡ spec.weight plan.now sets.now count digits.now
-        nodes.now track.now counters.now }
+fn weigh(count: usize, digits: &Digits, show: &Show, run: &Run) -> Option<Weight>
+    ensures { result ≡ spec.weight show.now.plan show.now.table.payloads count digits.now
+        run.now.words.nodes run.now.words.track run.now.counters }
 {
-    let reference = counter(REFERENCE, counters);
+    let reference = counter(REFERENCE, &run.counters);
     if reference == 0 {
         return start_weight();
     }
-    let cells = counter(CELLS, counters);
-    let arcs = counter(ARCS, counters);
+    let cells = counter(CELLS, &run.counters);
+    let arcs = counter(ARCS, &run.counters);
     weigh_at(
         reference,
         0,
@@ -96,10 +80,8 @@ fn weigh(
         count,
         arcs,
         digits,
-        plan,
-        sets,
-        nodes,
-        track,
+        show,
+        &run.words,
     )
 }
 
@@ -123,18 +105,17 @@ fn perform(
     count: usize,
     digits: &Digits,
     plan: &Plan,
-    nodes: &mut Nodes,
-    track: &mut Track,
     counters: &Counters,
+    words: &mut Words,
 ) -> Taken
-    ensures { with_words result nodes.new track.new
+    ensures { with_words result words.new.nodes words.new.track
         ≡ spec.performed plan.now count digits.now
-        nodes.old track.old counters.now }
+        words.old.nodes words.old.track counters.now }
 {
     let reference = counter(REFERENCE, counters);
     let tally = tally_of(counters);
     if reference == 0 {
-        return call_start(tally, nodes, track);
+        return call_start(tally, words);
     }
     let cells = counter(CELLS, counters);
     take(
@@ -147,7 +128,6 @@ fn perform(
         tally,
         digits,
         plan,
-        nodes,
-        track,
+        words,
     )
 }

@@ -1,12 +1,7 @@
 -- The marks that are taken from a run's nodes, one after the other: a reference more is a mark more behind
 -- those in front, which is one word more of the column. Assumes nothing.
-use Prim.Native.Nat.{ℕ, zero, suc, ◌+◌, ◌*◌, ◌<◌}
-use mathlib.Core.Path.{◌≡◌, refl, sym, ap, ◌∙◌}
-use mathlib.Core.List.{List, [], ◌∷◌, ◌++◌}
-use native.Mathlib.Nat.{add-zero}
-use native.Mathlib.Omega.{arith}
-use lib.ListN.{length, get_or, set, replicate}
-use borrow.Author.Tests.{lt-ltb}
+use Rattle.std.proofs.Common.{ℕ, zero, suc, ◌+◌, ◌*◌, ◌<◌, ◌≡◌, refl, sym, ap, ◌∙◌, List, [], ◌∷◌, ◌++◌}
+use Rattle.std.proofs.Common.{add-zero, arith, length, get_or, set, replicate, lt-ltb}
 use Rattle.tables.proofs.Kept.{sets_snoc}
 use Rattle.control.specs.words.Words.{reference_room, node}
 use Rattle.control.specs.words.Control.{label}

@@ -1,18 +1,15 @@
 -- The columns of a graph by its numbers tell its canonical graph. The walk over the columns is the graph's,
 -- so the numbers are; sorted pairs ascend and join the numbers that the canonical ones join, so they are
 -- those; and marks and words are read back as they were put. Assumes nothing.
-use Prim.Native.Nat.{ℕ, zero, suc, ◌+◌, ◌-◌, min, ◌≤◌, ◌<◌}
-use mathlib.Core.Path.{◌≡◌, refl, sym, ap, ap₂, ◌∙◌}
-use mathlib.Core.Bool.{Bool, true, false, ◌&&◌, ◌||◌, not}
-use mathlib.Core.List.{List, [], ◌∷◌, ◌++◌, map}
-use mathlib.Core.Option.{Option, none, some}
-use native.Mathlib.Omega.{arith}
-use native.Mathlib.Nat.{zero-add, add-zero, add-suc, suc-add}
-use lib.ListN.{length, get_or, get_elem?, replicate, drop, length-map, length-replicate, get_or-replicate}
-use lib.ListN.{get_or-append, get_or-eq_default}
-use lib.Seq.{sets, sets-eq, get_or-append-add, get_or-drop}
-use lib.Dec.{ltb, eqb}
-use borrow.Author.Tests.{ltb-true, ltb-false}
+use Rattle.std.proofs.Common.{ℕ, zero, suc, ◌+◌, ◌-◌, min, ◌≤◌, ◌<◌, ◌≡◌, refl, sym, ap, ap₂, ◌∙◌, Bool, true}
+use Rattle.std.proofs.Common.{false, ◌&&◌, ◌||◌, not, List, [], ◌∷◌, ◌++◌, map, arith, zero-add, add-zero}
+use Rattle.std.proofs.Common.{add-suc, suc-add, length, get_or, replicate, drop, get_or-append-add}
+use Rattle.std.proofs.Common.{get_or-drop, ltb, eqb, ltb-true, ltb-false}
+use Rattle.std.proofs.lemmas.List.{length-map, length-replicate, get_or-replicate}
+use Rattle.std.proofs.lemmas.List.Edits.{sets, sets-eq}
+use Rattle.std.proofs.Math.Option.{Option, none, some}
+use Rattle.std.proofs.Math.ListN.{get_elem?}
+use Rattle.std.proofs.Math.ListN.{get_or-append, get_or-eq_default}
 use Rattle.lines.specs.Line.{choose}
 use Rattle.lines.specs.Judging.{accepted}
 use Rattle.tables.specs.Table.{Sofar, judged}

@@ -1,16 +1,11 @@
 -- The words that hold a run are saved as the text of its track. Their labels are marks that tell the run's,
 -- the pairs are its arcs and meetings, and a run's track branches as it may, labels each reference once and
 -- makes each pair once; so what is told by numbers is its canonical graph. Assumes nothing.
-use Prim.Native.Nat.{ℕ, zero, suc, ◌+◌, min, ◌≤◌, ◌<◌}
-use mathlib.Core.Path.{◌≡◌, refl, sym, ap, ◌∙◌}
-use mathlib.Core.Bool.{Bool, true, false}
-use mathlib.Core.List.{List}
-use mathlib.Core.Option.{some}
-use native.Mathlib.Omega.{arith}
-use native.Mathlib.Nat.{zero-add, add-zero, add-suc, suc-add}
-use lib.ListN.{length, get_or, get_or-eq_default}
-use lib.Dec.{leb, ltb}
-use borrow.Author.Tests.{ltb-true, ltb-false, le-ltb}
+use Rattle.std.proofs.Common.{ℕ, zero, suc, ◌+◌, min, ◌≤◌, ◌<◌, ◌≡◌, refl, sym, ap, ◌∙◌, Bool, true, false}
+use Rattle.std.proofs.Common.{List, arith, zero-add, add-zero, add-suc, suc-add, length, get_or, leb, ltb}
+use Rattle.std.proofs.Common.{ltb-true, ltb-false, le-ltb}
+use Rattle.std.proofs.Math.Option.{some}
+use Rattle.std.proofs.Math.ListN.{get_or-eq_default}
 use Rattle.lines.specs.Judging.{accepted}
 use Rattle.lines.proofs.Digits.{both}
 use Rattle.tables.specs.Table.{Sofar, judged}

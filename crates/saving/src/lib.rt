@@ -6,72 +6,43 @@ ghost use Rattle.walks.specs.code.Walked.{laid};
 ghost use Rattle.writing.specs.Answers.{saved_told};
 ghost use Rattle.writing.specs.words.Slice.{with_slice, written};
 ghost use Rattle.saving.specs.code.Saving as of;
-ghost use Rattle.columns.specs.words.Columns.{columns};
-ghost use Rattle.runs.specs.words.Held.{lent};
+ghost use Rattle.columns.specs.words.Held.{placing};
+ghost use Rattle.runs.specs.words.Held.{words_of};
 ghost use Rattle.saving.specs.words.Kept.{Saves};
 ghost use Rattle.control.specs.words.Words.{reference_room, track_words};
-ghost use Rattle.links.specs.code.Linked.{side_words};
+ghost use Rattle.links.specs.words.Cleared.{cleared};
 
-use columns::{After, Kinds, Owners, Roots};
-use control::{Counters, LABEL, Nodes, REFERENCE_WORDS, REFERENCES, TRACK_WORDS, Track};
+use columns::Table;
+use control::{LABEL, Nodes, REFERENCE_WORDS, REFERENCES, Run, TRACK_WORDS};
 use counting::{ARCS, FRESH, MEETINGS};
-use links::{Column, SideWords};
+use links::{Column, Work};
 use numbering::number;
 use writing::{TooShort, write};
 
 // Saves a run into a slice: the text's length, or refusal 12 with the length that it would have. A slice that is too short is left
-// as it was, and bytes past the text keep their content. The slice is all that is written; the other seven are scratch, and all 0
-// afterwards.
-pub fn save(
-    kinds: &Kinds,
-    owners: &Owners,
-    after: &After,
-    roots: &Roots,
-    nodes: &Nodes,
-    track: &Track,
-    counters: &Counters,
-    labels: &mut Column,
-    graph: &mut Track,
-    marks: &mut Column,
-    sides: &mut SideWords,
-    pending: &mut SideWords,
-    numbers: &mut Column,
-    spare: &mut Track,
-    text: &mut [u8],
-) -> Result<usize, TooShort>
-    ensures text_after { with_slice (saved_told result) text.new ≡ written (of.text_of kinds.now owners.now
-        after.now roots.now nodes.now track.now counters.now)
+// as it was, and bytes past the text keep their content. The work is scratch, and all 0 afterwards.
+pub fn save(table: &Table, run: &Run, work: &mut Work, text: &mut [u8]) -> Result<usize, TooShort>
+    ensures text_after { with_slice (saved_told result) text.new ≡ written (of.text_of table.now.kinds table.now.owners
+        table.now.after table.now.roots run.now.words.nodes run.now.words.track run.now.counters)
         text.old }
-    ensures labels_after { labels.new ≡ replicate reference_room 0 }
-    ensures graph_after { graph.new ≡ replicate track_words 0 }
-    ensures marks_after { marks.new ≡ replicate reference_room 0 }
-    ensures sides_after { sides.new ≡ replicate side_words 0 }
-    ensures pending_after { pending.new ≡ replicate side_words 0 }
-    ensures numbers_after { numbers.new ≡ replicate reference_room 0 }
-    ensures spare_after { spare.new ≡ replicate track_words 0 }
-    ensures saves { Saves (columns kinds.now owners.now after.now roots.now)
-        (lent nodes.now track.now counters.now) text.old
+    ensures work_after { work.new ≡ cleared (replicate track_words 0) }
+    ensures saves { Saves (placing table.now)
+        (words_of run.now) text.old
         (saved_told result) text.new }
 {
-    take_marks(usize::from(counters[FRESH]).min(REFERENCES), nodes, marks);
+    let fresh = usize::from(run.counters[FRESH]);
+    take_marks(fresh.min(REFERENCES), &run.words.nodes, &mut work.marks);
     let counts = number(
-        usize::from(counters[ARCS]),
-        usize::from(counters[MEETINGS]),
-        marks,
-        track,
-        kinds,
-        after,
-        labels,
-        graph,
-        sides,
-        pending,
-        numbers,
-        spare,
+        usize::from(run.counters[ARCS]),
+        usize::from(run.counters[MEETINGS]),
+        &run.words.track,
+        table,
+        work,
     );
-    let saved = write(counts, labels, graph, kinds, owners, after, roots, text);
-    *labels = [0u16; REFERENCES];
-    *graph = [0u16; TRACK_WORDS];
-    *marks = [0u16; REFERENCES];
+    let saved = write(counts, &work.graph, table, text);
+    work.graph.labels = [0u16; REFERENCES];
+    work.graph.track = [0u16; TRACK_WORDS];
+    work.marks = [0u16; REFERENCES];
     saved
 }
 

@@ -1,12 +1,12 @@
 -- A line of a script by its characters: what each test of the code says of what their bytes ask. Each test is one of
 -- `well_formed` or `in_range`. Assumes nothing.
-use Rattle.std.proofs.Common.{ℕ, suc, ◌≤◌, ◌<◌, ◌-◌, ◌+◌, ◌/◌, ◌≡◌, sym, ap, ◌∙◌, Bool, true, false, List, ◌∷◌, arith}
-use Rattle.std.proofs.Common.{add-one, length, take, drop, get_or, set, length-take, length-drop, drop_of_length-le}
-use Rattle.std.proofs.Common.{eqb, drop-cons, get_or-drop, le-leb, eq-eqb, ne_eqb}
-use mathlib.Core.Bool.{and-false}
+use Rattle.std.proofs.Common.{ℕ, suc, ◌≤◌, ◌<◌, ◌-◌, ◌+◌, ◌/◌, ◌≡◌, sym, ap, ◌∙◌, Bool, true, false, List}
+use Rattle.std.proofs.Common.{◌∷◌, arith, add-one, length, take, drop, get_or, set, length-take, length-drop}
+use Rattle.std.proofs.Common.{drop_of_length-le, eqb, drop-cons, get_or-drop, le-leb, eq-eqb, ne_eqb}
+use Rattle.std.proofs.lemmas.Bool.{lt-leb}
+use Rattle.std.proofs.Math.Bool.{and-false}
 use Rattle.std.proofs.Math.Option.{some}
 use Rattle.std.proofs.lemmas.List.Edits.{sets}
-use borrow.Author.Tests.{lt-leb}
 use Rattle.lines.specs.Line.{number}
 use Rattle.numbers.specs.code.Numbers.{read_bytes, byte_at, number_of}
 use Rattle.numbers.proofs.Laws.{read_length, read_take, read_drop, number_read}

@@ -25,7 +25,8 @@ pub const DIGIT_ROOM: usize = 1024;
 pub const SCRIPT_TEXT_ROOM: usize = 65536;
 
 // The digits of an address, in front of what stood there.
-// An array of its room, with no heap: how many of them count stands beside it.
+// An array of its room, with no heap: how many of them count stands beside it, since the block that C lays out for a run has the
+// digits alone.
 pub type Digits = [u8; DIGIT_ROOM];
 
 // How many bytes stand before the digits: `20 llll`.

@@ -1,15 +1,15 @@
 -- The members of a number by its bits. Bit k + 1 of a number is bit k of its half, so laws of one number go
 -- by induction on its bits; an operation that works on each bit apart is, member by member, its table on
 -- truth values. Over any width. Assumes nothing.
-use Rattle.std.proofs.Common.{ℕ, zero, suc, ◌*◌, ◌/◌, ◌%◌, ◌^◌, ◌≤◌, ◌<◌, ◌≡◌, refl, ap, sym, ◌∙◌, Bool}
-use Rattle.std.proofs.Common.{true, false, ◌&&◌, ◌||◌, arith, mod-eq_of_lt, one-mul, one-add, pow_pos}
-use Rattle.std.proofs.Common.{shr-shr, bit_and, bit_or, bit_xor, eqb, eqb-true, ne_eqb}
-use mathlib.Core.Bool.{xor}
-use native.Mathlib.Nat.{div-eq_of_lt, two-pow-succ}
-use lib.Pow.{pow-lt}
+use Rattle.std.proofs.Common.{ℕ, zero, suc, ◌*◌, ◌/◌, ◌%◌, ◌^◌, ◌≤◌, ◌<◌, ◌≡◌, refl, ap, sym, ◌∙◌, Bool, true}
+use Rattle.std.proofs.Common.{false, ◌&&◌, ◌||◌, arith, mod-eq_of_lt, one-mul, one-add, pow_pos, shr-shr}
+use Rattle.std.proofs.Common.{bit_and, bit_or, bit_xor, eqb, eqb-true, ne_eqb}
+use Rattle.std.proofs.lemmas.Bool.{eqb-false}
+use Rattle.std.proofs.Math.Bool.{xor}
+use Rattle.std.proofs.Math.Nat.{div-eq_of_lt, two-pow-succ}
+use Rattle.std.proofs.Math.Pow.{pow-lt}
 use lib.Bits.{and_shr, or_shr, xor_shr, and_mod, or_mod, xor_mod}
-use lib.Dec.{eqb-zero-suc, eqb-suc-zero, eqb-suc-suc}
-use borrow.Author.Tests.{eqb-false}
+use Rattle.std.proofs.Math.Dec.{eqb-zero-suc, eqb-suc-zero, eqb-suc-suc}
 use Rattle.lines.specs.Line.{choose}
 use Rattle.sets.specs.EventSet.{member}
 use Rattle.sets.proofs.Members.{set_within}

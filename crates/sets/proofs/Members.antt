@@ -4,7 +4,7 @@
 use Rattle.std.proofs.Common.{ℕ, zero, suc, ◌+◌, ◌*◌, ◌/◌, ◌%◌, ◌^◌, ◌≤◌, ◌<◌, ◌≡◌, refl, ap, Bool, true}
 use Rattle.std.proofs.Common.{false, ◌↔◌, arith, add-zero, add-suc, pow_mono, leb, eqb-true, eq-eqb}
 use Rattle.std.proofs.Common.{leb-true, leb-false}
-use native.Mathlib.Nat.{div-eq_of_lt, div-eq_of_lt-le, two-pow-succ}
+use Rattle.std.proofs.Math.Nat.{div-eq_of_lt, div-eq_of_lt-le, two-pow-succ}
 use Rattle.sets.specs.EventSet.{member}
 
 -- a bit that is set is below the width

@@ -3,9 +3,9 @@
 -- Over any width. Assumes nothing.
 use Rattle.std.proofs.Common.{ℕ, suc, ◌/◌, ◌%◌, ◌≡◌, refl, sym, ◌∙◌, Bool, true, false, ◌&&◌, ◌||◌}
 use Rattle.std.proofs.Common.{true≢false, arith, bit_and, bit_or, bit_xor, eqb, eqb-true, ne_eqb}
-use mathlib.Core.Bool.{xor, false≢true}
-use lib.Arith.{bin_ind}
-use borrow.Author.Tests.{eqb-false}
+use Rattle.std.proofs.lemmas.Bool.{false≢true, eqb-false}
+use Rattle.std.proofs.Math.Bool.{xor}
+use Rattle.std.proofs.Math.Arith.{bin_ind}
 use Rattle.lines.specs.Line.{choose}
 use Rattle.sets.specs.EventSet.{member}
 use Rattle.sets.proofs.Members.{set_within}

@@ -4,7 +4,7 @@ use Rattle.std.proofs.Common.{ℕ, zero, suc, ◌+◌, ◌*◌, ◌-◌, ◌≡�
 use Rattle.std.proofs.Common.{[], ◌∷◌, Some, Less, Equal, Greater, arith, add-one, ltb, eqb}
 use Rattle.std.specs.List.{list_all, range_with_len}
 use Rattle.std.specs.Ordering.{nat_cmp, as_partial_cmp, partial_lt, partial_ordering_then, is_lt, is_some_and}
-use mathlib.Core.Bool.{and-false}
+use Rattle.std.proofs.Math.Bool.{and-false}
 use Rattle.control.specs.words.Words.{track_word}
 use Rattle.rules.specs.Track.{Pair, pair}
 use Rattle.control.specs.words.Views.{pairs}

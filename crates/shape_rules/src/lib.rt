@@ -1,5 +1,5 @@
-// The reader's rules that are tested item by item, on a graph in columns: a loop for each, which the first item that breaks the
-// rule ends. It relies on the words of a track and on marks.
+// The reader's rules that are tested item by item, on a graph in columns, each up to the first item that breaks it. It relies on
+// the words of a track and on marks.
 #![tactic(auto)]
 
 ghost use Rattle.std.specs.Prelude.{◌≡◌, ◌+◌, ◌≤◌, eqb};
@@ -42,7 +42,8 @@ pub fn ascend(base: usize, count: usize, graph: &Track) -> bool
     })
 }
 
-// Whether so many meetings join event nodes of one event, the lower number first.
+// Whether so many meetings join event nodes of one event, the lower number first. The graph is lent by column, since the one that a
+// reader tests stands in the work's own.
 pub fn join_events(meetings: usize, labels: &Column, graph: &Track, payloads: &Payloads) -> bool
     requires { meetings ≤ meeting_room }
     ensures { result ≡ of.meetings_fit payloads.now labels.now

@@ -1,12 +1,14 @@
 -- All the rules, of a graph in columns. Nodes that have marks are references, so that the walk's rule is its count's and its
 -- numbers'. Where the columns hold a graph, its marks stand in front of their column and its pairs are read back, so that the
 -- rules of the columns are the graph's. Assumes nothing.
-use Rattle.std.proofs.Common.{ℕ, zero, suc, ◌+◌, ◌≤◌, ◌<◌, min, ◌≡◌, refl, sym, ap, ◌∙◌, Bool, true, ◌&&◌, not, List, []}
-use Rattle.std.proofs.Common.{◌∷◌, arith, add-zero, zero-add, add-suc, suc-add, length, get_or, replicate, eqb}
+use Rattle.std.proofs.Common.{ℕ, zero, suc, ◌+◌, ◌≤◌, ◌<◌, min, ◌≡◌, refl, sym, ap, ◌∙◌, Bool, true, ◌&&◌}
+use Rattle.std.proofs.Common.{not, List, [], ◌∷◌, arith, add-zero, zero-add, add-suc, suc-add, length, get_or}
+use Rattle.std.proofs.Common.{replicate, eqb}
+use Rattle.std.proofs.lemmas.List.{length-replicate}
 use Rattle.std.proofs.lemmas.List.Edits.{sets-eq}
-use mathlib.Core.Bool.{and_assoc}
-use native.Mathlib.Nat.{min-eq_left}
-use lib.ListN.{length-replicate, get_or-append}
+use Rattle.std.proofs.Math.Bool.{and_assoc}
+use Rattle.std.proofs.Math.Nat.{min-eq_left}
+use Rattle.std.proofs.Math.ListN.{get_or-append}
 use Rattle.columns.proofs.Laws.{look_in}
 use Rattle.rules.specs.Track.{Pair}
 use Rattle.rules.specs.Run.{node_room, arc_room, meeting_room}

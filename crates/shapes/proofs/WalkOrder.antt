@@ -1,9 +1,10 @@
 -- Distinct references get their numbers in order: the one at number i gets i + 1. So if each number below n has one more than
 -- itself, and n references got numbers, reference i stands at number i; and the other way round. Assumes nothing.
-use Rattle.std.proofs.Common.{ℕ, zero, suc, ◌+◌, ◌≤◌, ◌<◌, ◌≡◌, refl, sym, ap, ◌∙◌, Bool, true, false, ◌&&◌, List, [], ◌∷◌}
-use Rattle.std.proofs.Common.{arith, add-zero, zero-add, add-suc, suc-add, add-one, length, get_or, set, replicate}
-use Rattle.std.proofs.Common.{length-set, get_or-set_same, get_or-set_other, ext_get_or, eqb, eqb-true, eq-eqb}
-use lib.ListN.{length-replicate}
+use Rattle.std.proofs.Common.{ℕ, zero, suc, ◌+◌, ◌≤◌, ◌<◌, ◌≡◌, refl, sym, ap, ◌∙◌, Bool, true, false, ◌&&◌}
+use Rattle.std.proofs.Common.{List, [], ◌∷◌, arith, add-zero, zero-add, add-suc, suc-add, add-one, length}
+use Rattle.std.proofs.Common.{get_or, set, replicate, length-set, get_or-set_same, get_or-set_other}
+use Rattle.std.proofs.Common.{ext_get_or, eqb, eqb-true, eq-eqb}
+use Rattle.std.proofs.lemmas.List.{length-replicate}
 use Rattle.lines.proofs.Digits.{both}
 use Rattle.columns.proofs.Laws.{look_in}
 use Rattle.control.specs.words.Words.{reference_room}

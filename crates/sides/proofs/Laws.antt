@@ -1,10 +1,6 @@
 -- The sides of an entered choice or parallel, by what their tests found: each law takes what the calls on the
 -- way promise. Assumes nothing.
-use Prim.Native.Nat.{ℕ, ◌+◌, ◌-◌}
-use mathlib.Core.Path.{◌≡◌, refl, sym, ap, ◌∙◌}
-use mathlib.Core.Bool.{Bool, true, false}
-use mathlib.Core.List.{List}
-use borrow.Author.Tests.{eq-eqb, ne_eqb}
+use Rattle.std.proofs.Common.{ℕ, ◌+◌, ◌-◌, ◌≡◌, refl, sym, ap, ◌∙◌, Bool, true, false, List, eq-eqb, ne_eqb}
 use Rattle.plans.specs.words.Plan.{kind}
 use Rattle.control.specs.words.Words.{node, put}
 use Rattle.control.specs.words.Control.{term, frame, resting}

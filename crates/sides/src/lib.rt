@@ -6,7 +6,7 @@ ghost use Rattle.leaves.specs.code.Leaves.{with_words};
 ghost use Rattle.sides.specs.code.Sides as spec;
 
 use control::{
-    ENTERED, FRAME, Nodes, SIDES, SIZES, STATE, TERM, Track, UNTOUCHED, less, put, sum, word,
+    ENTERED, FRAME, Nodes, SIDES, SIZES, STATE, TERM, UNTOUCHED, Words, less, put, sum, word,
 };
 use drawing::{Tally, draw, label, meet_all, stand};
 use leaves::{Taken, settle};
@@ -32,22 +32,21 @@ pub fn enter_side(
     t: usize,
     frame: usize,
     tally: Tally,
-    nodes: &mut Nodes,
-    track: &mut Track,
+    words: &mut Words,
 ) -> Tally
     requires { side ≤ 2 }
-    ensures value { result ≡ spec.side_tally n side tally nodes.old }
-    ensures nodes_after { nodes.new ≡ spec.side_nodes n side t frame tally nodes.old }
-    ensures track_after { track.new ≡ spec.side_track n side tally nodes.old track.old }
+    ensures value { result ≡ spec.side_tally n side tally words.old.nodes }
+    ensures nodes_after { words.new.nodes ≡ spec.side_nodes n side t frame tally words.old.nodes }
+    ensures track_after { words.new.track ≡ spec.side_track n side tally words.old.nodes words.old.track }
 {
-    let reference = word(n, SIDES + side, nodes);
+    let reference = word(n, SIDES + side, &words.nodes);
     if reference != 0 {
         return tally;
     }
     let next = tally.fresh;
-    stand(next, UNTOUCHED, t, frame, nodes);
-    put(n, SIDES + side, next, nodes);
-    draw(n, tally, track)
+    stand(next, UNTOUCHED, t, frame, &mut words.nodes);
+    put(n, SIDES + side, next, &mut words.nodes);
+    draw(n, tally, &mut words.track)
 }
 
 // Puts a side that has stepped back.
@@ -69,19 +68,18 @@ pub fn close_one(
     other: usize,
     done: Taken,
     plan: &Plan,
-    nodes: &mut Nodes,
-    track: &mut Track,
+    words: &mut Words,
 ) -> Taken
     requires { side ≤ 2 }
-    ensures { with_words result nodes.new track.new
-        ≡ spec.one plan.now n side bound size own other done nodes.old track.old }
+    ensures { with_words result words.new.nodes words.new.track
+        ≡ spec.one plan.now n side bound size own other done words.old.nodes words.old.track }
 {
-    let t = word(n, TERM, nodes);
+    let t = word(n, TERM, &words.nodes);
     let kind = kind_of(t, plan);
     let event = done.event;
     let tally = done.tally;
     if stays(kind, event) {
-        put_side(n, side, done.reference, done.size, nodes);
+        put_side(n, side, done.reference, done.size, &mut words.nodes);
         return Taken {
             event: shown(kind, event),
             reference: n,
@@ -90,7 +88,7 @@ pub fn close_one(
             tally,
         };
     }
-    let frame = word(n, FRAME, nodes);
+    let frame = word(n, FRAME, &words.nodes);
     let rest = less(less(less(size, own), other), 1);
     let dropped = Taken {
         event,
@@ -99,7 +97,7 @@ pub fn close_one(
         at: done.at,
         tally,
     };
-    settle(dropped, t, frame, bound, plan, nodes, track)
+    settle(dropped, t, frame, bound, plan, words)
 }
 
 // What a joint step makes of its parallel: the event nodes of its parts, from number `met` on, meet.
@@ -111,13 +109,12 @@ pub fn close_both(
     met: usize,
     done: Taken,
     across: Taken,
-    nodes: &mut Nodes,
-    track: &mut Track,
+    words: &mut Words,
 ) -> Taken
-    ensures { with_words result nodes.new track.new
-        ≡ spec.both n size own other met done across nodes.old track.old }
+    ensures { with_words result words.new.nodes words.new.track
+        ≡ spec.both n size own other met done across words.old.nodes words.old.track }
 {
-    put_side(n, 2, across.reference, across.size, nodes);
+    put_side(n, 2, across.reference, across.size, &mut words.nodes);
     let event = done.event;
     let left = done.tally;
     let right = across.tally;
@@ -127,6 +124,6 @@ pub fn close_both(
         reference: n,
         size: sum(sum(rest, done.size), across.size),
         at: across.at,
-        tally: meet_all(met, left.met, right.met, right, track),
+        tally: meet_all(met, left.met, right.met, right, &mut words.track),
     }
 }

@@ -1,12 +1,8 @@
 -- Characters put into a slice, one run behind another, are put as one run. So what is to be put splits at any
 -- cursor: what was put in front, and what is owed behind it, and nothing is owed at the end. Assumes nothing.
-use Prim.Native.Nat.{ℕ, suc, ◌+◌}
-use mathlib.Core.Path.{◌≡◌, refl, ◌∙◌}
-use mathlib.Core.List.{List, [], ◌∷◌, ◌++◌}
-use native.Mathlib.Omega.{arith}
-use native.Mathlib.Numerals.{add-one}
-use lib.ListN.{length, set, length-append}
-use lib.Seq.{sets}
+use Rattle.std.proofs.Common.{ℕ, suc, ◌+◌, ◌≡◌, refl, ◌∙◌, List, [], ◌∷◌, ◌++◌, arith, add-one, length, set}
+use Rattle.std.proofs.Common.{length-append}
+use Rattle.std.proofs.lemmas.List.Edits.{sets}
 use Rattle.spelling.specs.words.Puts.{Puts}
 
 -- characters behind others are one run with them

@@ -1,6 +1,7 @@
 -- What the status is at each test: one law a return, over plain variables. Assumes nothing.
-use Rattle.std.proofs.Common.{ℕ, zero, suc, ◌^◌, ◌<◌, ◌≡◌, refl, Bool, true, false, ◌||◌, List, arith, eqb, eqb-true}
-use borrow.Author.Tests.{eqb-false}
+use Rattle.std.proofs.Common.{ℕ, zero, suc, ◌^◌, ◌<◌, ◌≡◌, refl, Bool, true, false, ◌||◌, List, arith, eqb}
+use Rattle.std.proofs.Common.{eqb-true}
+use Rattle.std.proofs.lemmas.Bool.{eqb-false}
 use Rattle.frames.specs.TableFrame.{event_room}
 use Rattle.sets.specs.EventSet.{member}
 use Rattle.sets.proofs.Members.{set_within}

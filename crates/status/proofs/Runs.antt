@@ -1,8 +1,8 @@
 -- What is told of a run's status is what document 02's W2 says of its control, by its offers. Past the count of a table's
 -- events nothing is offered, so a search through all that there may be finds the same. Assumes nothing.
-use Rattle.std.proofs.Common.{ℕ, zero, suc, ◌≤◌, ◌<◌, ◌≡◌, refl, ap, ◌∙◌, Bool, true, false, ◌||◌, List, arith, eqb}
-use Rattle.std.proofs.Common.{eqb-true}
-use borrow.Author.Tests.{eqb-false}
+use Rattle.std.proofs.Common.{ℕ, zero, suc, ◌≤◌, ◌<◌, ◌≡◌, refl, ap, ◌∙◌, Bool, true, false, ◌||◌, List}
+use Rattle.std.proofs.Common.{arith, eqb, eqb-true}
+use Rattle.std.proofs.lemmas.Bool.{eqb-false}
 use Rattle.lines.specs.Judging.{accepted}
 use Rattle.frames.specs.TableFrame.{event_room}
 use Rattle.tables.specs.Table.{Sofar, judged}

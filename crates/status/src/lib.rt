@@ -6,23 +6,22 @@ ghost use Rattle.std.specs.Prelude.{◌≡◌};
 ghost use Rattle.status.specs.code.Status as code;
 ghost use Rattle.status.specs.words.Told.{TellsStatus};
 
-use columns::Payloads;
 use control::Nodes;
 use offers::{ended, offers};
-use plans::Plan;
+use plans::Show;
 use rules::Status;
 use sets::empty;
 
 // The status of a run at a reference.
-pub fn status_at(reference: usize, plan: &Plan, sets: &Payloads, nodes: &Nodes) -> Status
+pub fn status_at(reference: usize, show: &Show, nodes: &Nodes) -> Status
     ensures value { result ≡ code.status
-        plan.now sets.now nodes.now reference }
-    ensures tells_status { TellsStatus plan.now sets.now nodes.now reference result }
+        show.now.plan show.now.table.payloads nodes.now reference }
+    ensures tells_status { TellsStatus show.now.plan show.now.table.payloads nodes.now reference result }
 {
     if ended(reference, nodes) {
         return Status::Ended;
     }
-    let offered = offers(reference, plan, sets, nodes);
+    let offered = offers(reference, show, nodes);
     if offered.plain || offered.tick || !empty(offered.events) {
         return Status::Live;
     }

@@ -2,13 +2,8 @@
 -- where no path is longer than 64 digits; an entered choice or parallel needs one more than its sides, and
 -- has one cell more than they have. So a process needs at most 132 calls more than it has cells. Assumes
 -- nothing.
-use Prim.Native.Nat.{ℕ, ◌+◌, ◌*◌, ◌≤◌}
-use mathlib.Core.Path.{sym, subst}
-use mathlib.Core.Bool.{true, false}
-use mathlib.Core.List.{List, [], ◌∷◌}
-use mathlib.Core.Option.{none, some}
-use native.Mathlib.Omega.{arith}
-use lib.ListN.{length}
+use Rattle.std.proofs.Common.{ℕ, ◌+◌, ◌*◌, ◌≤◌, sym, subst, true, false, List, [], ◌∷◌, arith, length}
+use Rattle.std.proofs.Math.Option.{none, some}
 use Rattle.frames.specs.TableFrame.{path_room}
 use Rattle.terms.specs.Term.{external, parallel, Term}
 use Rattle.terms.specs.Term as Term

@@ -1,13 +1,9 @@
 -- Two ended sides end their parallel: each parent of either side's Ω gets an arc to a fresh reference, where
 -- Ω stands then in their place, inside the parallel's own sequences, which see the ✓. Sides that have ended
 -- have stepped, since no term is Ω. Assumes nothing.
-use Prim.Native.Nat.{ℕ, suc, ◌+◌, ◌-◌, ◌≤◌, ◌<◌}
-use mathlib.Core.Path.{◌≡◌, refl, sym, ap, subst, ◌∙◌}
-use mathlib.Core.List.{List, [], ◌∷◌, append-nil}
-use mathlib.Core.Option.{Option, none, some}
-use native.Mathlib.Omega.{arith}
-use native.Mathlib.Nat.{add-zero}
-use lib.ListN.{length}
+use Rattle.std.proofs.Common.{ℕ, suc, ◌+◌, ◌-◌, ◌≤◌, ◌<◌, ◌≡◌, refl, sym, ap, subst, ◌∙◌, List, [], ◌∷◌}
+use Rattle.std.proofs.Common.{append-nil, arith, add-zero, length}
+use Rattle.std.proofs.Math.Option.{Option, none, some}
 use Rattle.places.specs.Place.{Place}
 use Rattle.rules.specs.Process.{Address, together, split, Ω, cells}
 use Rattle.rules.specs.Track.{Pair, parents, ended, lookup}

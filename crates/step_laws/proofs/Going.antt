@@ -2,10 +2,7 @@
 -- comes to; `Goes`, the same event, digits, cells and reference, the same labels, arcs, meetings and event nodes added,
 -- and words that hold the same process. `Ends` is the same of a part before the sequences around it see its event.
 -- Assumes nothing.
-use Prim.Native.Nat.{ℕ, ◌+◌, ◌-◌, ◌≤◌, ◌<◌}
-use mathlib.Core.Path.{◌≡◌}
-use mathlib.Core.List.{List, []}
-use lib.ListN.{length}
+use Rattle.std.proofs.Common.{ℕ, ◌+◌, ◌-◌, ◌≤◌, ◌<◌, ◌≡◌, List, [], length}
 use Rattle.rules.specs.declared.Event.TheVariants.{Tick as ✓}
 use Rattle.rules.specs.Process.{Process, Ω, cells}
 use Rattle.rules.specs.Track.{At, Outcome}

@@ -1,12 +1,8 @@
 -- The room that a joint step of a parallel leaves for the steps of its sides: the right draws behind the
 -- left, and what either adds is part of what both add. And what the code makes of the right, from the words
 -- that the left leaves. Assumes nothing.
-use Prim.Native.Nat.{ℕ, ◌≤◌}
-use mathlib.Core.Path.{◌≡◌, sym, subst}
-use mathlib.Core.List.{List, ◌++◌}
-use mathlib.Core.Option.{Option, some}
-use native.Mathlib.Omega.{arith}
-use lib.ListN.{length-append}
+use Rattle.std.proofs.Common.{ℕ, ◌≤◌, ◌≡◌, sym, subst, List, ◌++◌, arith, length-append}
+use Rattle.std.proofs.Math.Option.{Option, some}
 use Rattle.terms.specs.Term.{Term}
 use Rattle.places.specs.Place.{Place}
 use Rattle.rules.specs.Process.{Address, together, Process, split, cells}

@@ -1,14 +1,10 @@
 -- The steps that look no further down: a call, a prefix, an internal choice, SKIP and STOP at a reference. Each
 -- labels the reference, draws, and leaves what comes of it at the last one drawn, inside the chain that stood
 -- around the term; the sequences around it see its event as `Settling` has it. Assumes nothing.
-use Prim.Native.Nat.{ℕ, suc, ◌+◌, ◌-◌, ◌≤◌, ◌<◌}
-use mathlib.Core.Path.{◌≡◌, refl, sym, ap, subst, ◌∙◌}
-use mathlib.Core.Bool.{Bool, true, false}
-use mathlib.Core.List.{List, [], ◌∷◌}
-use mathlib.Core.Option.{Option, none, some}
-use native.Mathlib.Omega.{arith}
-use lib.ListN.{length, get_elem?}
-use lib.Dec.{eqb}
+use Rattle.std.proofs.Common.{ℕ, suc, ◌+◌, ◌-◌, ◌≤◌, ◌<◌, ◌≡◌, refl, sym, ap, subst, ◌∙◌, Bool, true, false}
+use Rattle.std.proofs.Common.{List, [], ◌∷◌, arith, length, eqb}
+use Rattle.std.proofs.Math.Option.{Option, none, some}
+use Rattle.std.proofs.Math.ListN.{get_elem?}
 use Rattle.lines.specs.Line.{choose}
 use Rattle.frames.specs.TableFrame.{event_room}
 use Rattle.terms.specs.Term.{call, SKIP, STOP, Term, leaf_kind}

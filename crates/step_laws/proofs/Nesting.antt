@@ -2,14 +2,9 @@
 -- sequence around a part is one more that waits for its event, and an untouched sequence goes on at its left.
 -- What a step comes to inside the sequences around it has room before they see it, so the references drawn
 -- before it have. Assumes nothing.
-use Prim.Native.Nat.{ℕ, suc, ◌+◌, ◌*◌, ◌≤◌, ◌<◌, max}
-use mathlib.Core.Path.{◌≡◌, refl, sym, subst, ◌∙◌}
-use mathlib.Core.Bool.{true, false}
-use mathlib.Core.List.{List, ◌∷◌}
-use mathlib.Core.Option.{Option, none, some, none-ne-some}
-use native.Mathlib.Omega.{arith}
-use native.Mathlib.Numerals.{add-one}
-use lib.ListN.{length}
+use Rattle.std.proofs.Common.{ℕ, suc, ◌+◌, ◌*◌, ◌≤◌, ◌<◌, max, ◌≡◌, refl, sym, subst, ◌∙◌, true, false, List}
+use Rattle.std.proofs.Common.{◌∷◌, arith, add-one, length}
+use Rattle.std.proofs.Math.Option.{Option, none, some, none-ne-some}
 use Rattle.terms.specs.Term.{Term, binary, operator_kind}
 use Rattle.terms.specs.Term as Term
 use Rattle.rules.specs.Process.{Address, Process, leaf, prefix, internal, split, sequence, Ω, ⊥', cells}

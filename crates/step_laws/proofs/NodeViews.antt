@@ -1,14 +1,10 @@
 -- What each word of each reference is after what a step writes: the words that it puts are the values, every
 -- other word is as before, and nothing that a labelled reference keeps changes. Each is some puts in a row. And
 -- what marks tell: a term's own mark the term's place, and an event's mark the event's. Assumes nothing.
-use Prim.Native.Nat.{ℕ, ◌+◌, ◌≤◌, ◌<◌}
-use mathlib.Core.Path.{◌≡◌, refl, ap, sym, ◌∙◌}
-use mathlib.Core.Bool.{Bool, true, false}
-use mathlib.Core.List.{List}
-use mathlib.Core.Option.{none, some}
-use native.Mathlib.Omega.{arith}
-use lib.Dec.{eqb}
-use borrow.Author.Tests.{eqb-true, eqb-false, eq-eqb, ne_eqb}
+use Rattle.std.proofs.Common.{ℕ, ◌+◌, ◌≤◌, ◌<◌, ◌≡◌, refl, ap, sym, ◌∙◌, Bool, true, false, List, arith, eqb}
+use Rattle.std.proofs.Common.{eqb-true, eq-eqb, ne_eqb}
+use Rattle.std.proofs.lemmas.Bool.{eqb-false}
+use Rattle.std.proofs.Math.Option.{none, some}
 use Rattle.lines.specs.Line.{choose}
 use Rattle.marks.specs.words.Mark.{own_mark, event_mark}
 use Rattle.marks.proofs.Laws.{own_small, own_is, event_is, own_read, event_read}

@@ -2,13 +2,9 @@
 -- nor the other side, which are held beside it; so behind it the split is entered as before, with the side's
 -- new reference and cells. `Closes` is what the words come to before the sequences around the split see its
 -- event. Assumes nothing.
-use Prim.Native.Nat.{ℕ, suc, ◌+◌, ◌-◌, ◌≤◌, ◌<◌}
-use mathlib.Core.Path.{◌≡◌, refl, sym, ap, ◌∙◌}
-use mathlib.Core.Bool.{true}
-use mathlib.Core.List.{List, []}
-use mathlib.Core.Option.{Option, some}
-use native.Mathlib.Omega.{arith}
-use lib.ListN.{length}
+use Rattle.std.proofs.Common.{ℕ, suc, ◌+◌, ◌-◌, ◌≤◌, ◌<◌, ◌≡◌, refl, sym, ap, ◌∙◌, true, List, [], arith}
+use Rattle.std.proofs.Common.{length}
+use Rattle.std.proofs.Math.Option.{Option, some}
 use Rattle.terms.specs.Term.{Term}
 use Rattle.places.specs.Place.{Place}
 use Rattle.rules.specs.declared.Event.{Event}

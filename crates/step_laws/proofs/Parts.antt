@@ -2,16 +2,10 @@
 -- stands there, both of these in a row, and an event node. A word that is not theirs stays, and what they add
 -- is one more behind the last; what is whole and clean stays so. And what a plan tells of an untouched process,
 -- which rests where it comes to stand. Assumes nothing.
-use Prim.Native.Nat.{ℕ, suc, ◌+◌, ◌≤◌, ◌<◌}
-use mathlib.Core.Path.{◌≡◌, refl, sym, ap, subst, ◌∙◌}
-use mathlib.Core.Bool.{Bool, true, false}
-use mathlib.Core.List.{List, [], ◌∷◌, ◌++◌, append-nil}
-use mathlib.Core.Option.{none, some}
-use native.Mathlib.Omega.{arith}
-use native.Mathlib.Nat.{add-zero}
-use lib.ListN.{length, get_or}
-use lib.Dec.{eqb, leb, ltb}
-use borrow.Author.Tests.{eqb-true, leb-true, leb-false, ltb-true, ltb-false}
+use Rattle.std.proofs.Common.{ℕ, suc, ◌+◌, ◌≤◌, ◌<◌, ◌≡◌, refl, sym, ap, subst, ◌∙◌, Bool, true, false, List}
+use Rattle.std.proofs.Common.{[], ◌∷◌, ◌++◌, append-nil, arith, add-zero, length, get_or, eqb, leb, ltb}
+use Rattle.std.proofs.Common.{eqb-true, leb-true, leb-false, ltb-true, ltb-false}
+use Rattle.std.proofs.Math.Option.{none, some}
 use Rattle.lines.specs.Line.{choose}
 use Rattle.kinds.specs.Kind as Kind
 use Rattle.frames.specs.TableFrame.{term_room, event_room}

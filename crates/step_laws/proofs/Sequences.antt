@@ -1,10 +1,7 @@
 -- A sequence that no step has touched is entered by going on at its left: the term there is one further, and
 -- the sequence is one more around it. Nothing is added to the track. Assumes nothing.
-use Prim.Native.Nat.{ℕ, suc, ◌≤◌, ◌<◌}
-use mathlib.Core.Path.{◌≡◌, refl, sym, subst, ◌∙◌}
-use mathlib.Core.List.{List, ◌∷◌, append-nil}
-use native.Mathlib.Omega.{arith}
-use native.Mathlib.Nat.{add-zero}
+use Rattle.std.proofs.Common.{ℕ, suc, ◌≤◌, ◌<◌, ◌≡◌, refl, sym, subst, ◌∙◌, List, ◌∷◌, append-nil, arith}
+use Rattle.std.proofs.Common.{add-zero}
 use Rattle.terms.specs.Term.{Term, external, parallel, binary}
 use Rattle.terms.specs.Term as Term
 use Rattle.places.specs.Place.{Place}

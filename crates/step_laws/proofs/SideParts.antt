@@ -1,11 +1,7 @@
 -- What the rules make of one side's step has the side's parts in it: its draws, labels, arcs, meetings and
 -- event nodes behind those of entering the side, and no fewer cells; and a ✓ shows only a ✓. Assumes nothing.
-use Prim.Native.Nat.{ℕ, ◌≤◌}
-use mathlib.Core.Path.{◌≡◌, refl, subst, ◌∙◌}
-use mathlib.Core.Bool.{Bool, true, false}
-use mathlib.Core.List.{◌++◌}
-use mathlib.Core.Option.{Option, none, some, some-injective, none-ne-some}
-use native.Mathlib.Omega.{arith}
+use Rattle.std.proofs.Common.{ℕ, ◌≤◌, ◌≡◌, refl, subst, ◌∙◌, Bool, true, false, ◌++◌, arith}
+use Rattle.std.proofs.Math.Option.{Option, none, some, some-injective, none-ne-some}
 use Rattle.lines.specs.Line.{choose}
 use Rattle.sets.specs.EventSet.{member}
 use Rattle.places.specs.Place.{Place}

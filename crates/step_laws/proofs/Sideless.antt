@@ -2,13 +2,9 @@
 -- labelled, and takes no label away. So an untouched choice or parallel, which has no label yet, finds its
 -- words for the sides empty. Each of what a step writes keeps this, whatever else the words hold. Assumes
 -- nothing.
-use Prim.Native.Nat.{ℕ, ◌+◌, ◌-◌, ◌≤◌, ◌<◌}
-use mathlib.Core.Path.{◌≡◌, refl, sym, ap, ◌∙◌}
-use mathlib.Core.Bool.{Bool, true, false}
-use mathlib.Core.List.{List}
-use native.Mathlib.Omega.{arith}
-use lib.Dec.{eqb, ltb}
-use borrow.Author.Tests.{eqb-true, eqb-false, ltb-true}
+use Rattle.std.proofs.Common.{ℕ, ◌+◌, ◌-◌, ◌≤◌, ◌<◌, ◌≡◌, refl, sym, ap, ◌∙◌, Bool, true, false, List, arith}
+use Rattle.std.proofs.Common.{eqb, ltb, eqb-true, ltb-true}
+use Rattle.std.proofs.lemmas.Bool.{eqb-false}
 use Rattle.lines.specs.Line.{choose}
 use Rattle.control.specs.words.Words.{node, put, reference_room}
 use Rattle.kinds.specs.Kind as Kind

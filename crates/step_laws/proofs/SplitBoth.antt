@@ -1,14 +1,8 @@
 -- The joint step of an entered parallel, through the words: the left's step, the right's from the words that
 -- it leaves, and their meetings, from what both come to one level deeper. And the end of a parallel whose
 -- sides have ended. Assumes nothing.
-use Prim.Native.Nat.{ℕ, ◌+◌, ◌-◌}
-use mathlib.Core.Path.{◌≡◌, refl}
-use mathlib.Core.Bool.{Bool, true, false, ◌&&◌}
-use mathlib.Core.List.{List}
-use mathlib.Core.Option.{Option, none, some, none-ne-some}
-use native.Mathlib.Omega.{arith}
-use lib.ListN.{length}
-use lib.Dec.{eqb}
+use Rattle.std.proofs.Common.{ℕ, ◌+◌, ◌-◌, ◌≡◌, refl, Bool, true, false, ◌&&◌, List, arith, length, eqb}
+use Rattle.std.proofs.Math.Option.{Option, none, some, none-ne-some}
 use Rattle.lines.specs.Line.{choose}
 use Rattle.sets.specs.EventSet.{member}
 use Rattle.terms.specs.Term.{Term}

@@ -1,9 +1,7 @@
 -- The step that the words take at an entered choice or parallel, by the digit that it reads: 1 or 2 for a
 -- side, 3 for both, 4 for the end of both. Assumes nothing.
-use Prim.Native.Nat.{ℕ, suc, ◌+◌, ◌-◌}
-use mathlib.Core.Path.{◌≡◌, sym, ◌∙◌}
-use mathlib.Core.List.{List, [], ◌∷◌}
-use mathlib.Core.Option.{Option, some}
+use Rattle.std.proofs.Common.{ℕ, suc, ◌+◌, ◌-◌, ◌≡◌, sym, ◌∙◌, List, [], ◌∷◌}
+use Rattle.std.proofs.Math.Option.{Option, some}
 use Rattle.terms.specs.Term.{Term}
 use Rattle.places.specs.Place.{Place}
 use Rattle.rules.specs.Process.{one, two, three, four, Address, Split, choice, together, Process, split}

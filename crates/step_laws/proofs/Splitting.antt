@@ -2,12 +2,8 @@
 -- both, each from what its sides' steps come to, one level deeper. A side has no sequences around it, and
 -- stands in words that are ready for it; what the split makes of the side's step the sequences around the
 -- split see. Assumes nothing.
-use Prim.Native.Nat.{ℕ, suc, ◌+◌, ◌*◌, ◌-◌, ◌≤◌}
-use mathlib.Core.Path.{◌≡◌, sym, subst, ◌∙◌}
-use mathlib.Core.List.{List, []}
-use mathlib.Core.Option.{Option, some}
-use native.Mathlib.Omega.{arith}
-use lib.ListN.{length}
+use Rattle.std.proofs.Common.{ℕ, suc, ◌+◌, ◌*◌, ◌-◌, ◌≤◌, ◌≡◌, sym, subst, ◌∙◌, List, [], arith, length}
+use Rattle.std.proofs.Math.Option.{Option, some}
 use Rattle.terms.specs.Term.{Term}
 use Rattle.places.specs.Place.{Place}
 use Rattle.rules.specs.declared.Event.TheVariants.{Tick as ✓}

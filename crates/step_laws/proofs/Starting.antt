@@ -1,12 +1,8 @@
 -- A side's step before the words go through it: what the rules say of it, and words in which the side is
 -- entered and ready, with the room that the split's outcome leaves. And what the code reads on its way there:
 -- a side's term, the frame of the sides and the side's reference. Assumes nothing.
-use Prim.Native.Nat.{ℕ, suc, ◌+◌, ◌≤◌, ◌<◌}
-use mathlib.Core.Path.{◌≡◌, ◌∙◌}
-use mathlib.Core.List.{List, [], ◌++◌}
-use mathlib.Core.Option.{Option, some}
-use native.Mathlib.Omega.{arith}
-use lib.ListN.{length, length-append}
+use Rattle.std.proofs.Common.{ℕ, suc, ◌+◌, ◌≤◌, ◌<◌, ◌≡◌, ◌∙◌, List, [], ◌++◌, arith, length, length-append}
+use Rattle.std.proofs.Math.Option.{Option, some}
 use Rattle.terms.specs.Term.{Term}
 use Rattle.places.specs.Place.{Place}
 use Rattle.rules.specs.declared.Event.{Event}

@@ -2,13 +2,9 @@
 -- looks no further down steps at once; an untouched sequence goes on at its left; an untouched choice or
 -- parallel is opened, and goes on as one that was entered before, with its label in front of what the step
 -- adds; an entered one goes by the digit that it reads. Ω and ⊥ have no step. Assumes nothing.
-use Prim.Native.Nat.{ℕ, zero, suc, ◌+◌, ◌≤◌, max}
-use mathlib.Core.Path.{◌≡◌, refl, sym, ap, subst, ◌∙◌}
-use mathlib.Core.Bool.{true, false}
-use mathlib.Core.List.{List}
-use mathlib.Core.Option.{Option, none, some}
-use native.Mathlib.Omega.{arith}
-use lib.ListN.{length}
+use Rattle.std.proofs.Common.{ℕ, zero, suc, ◌+◌, ◌≤◌, max, ◌≡◌, refl, sym, ap, subst, ◌∙◌, true, false, List}
+use Rattle.std.proofs.Common.{arith, length}
+use Rattle.std.proofs.Math.Option.{Option, none, some}
 use Rattle.terms.specs.Term.{call, SKIP, STOP, external, parallel, Term, binary, leaf_kind}
 use Rattle.terms.specs.Term as Term
 use Rattle.places.specs.Place.{Place}

@@ -1,17 +1,10 @@
 -- What a write to a track leaves alone and what it adds. A write is told by the words that it stays within:
 -- lists of pairs and of event nodes that are read from other words stay the same, and what is written behind
 -- the last of a list is one more at its end. Assumes nothing.
-use Prim.Native.Nat.{ℕ, zero, suc, ◌+◌, ◌*◌, ◌%◌, ◌≤◌, ◌<◌}
-use mathlib.Core.Path.{◌≡◌, refl, ◌∙◌}
-use mathlib.Core.Bool.{Bool, true, false}
-use mathlib.Core.List.{List, [], ◌∷◌, ◌++◌, append-nil, append_assoc}
-use native.Mathlib.Omega.{arith}
-use native.Mathlib.Nat.{zero-add, add-zero, add_assoc}
-use native.Mathlib.Numerals.{add-one}
-use lib.ListN.{length, get_or, set, length-set, length-append}
-use lib.Seq.{get_or-set_same, get_or-set_other}
-use lib.Dec.{ltb}
-use borrow.Author.Tests.{lt-ltb, le-ltb, ltb-true, ltb-false}
+use Rattle.std.proofs.Common.{ℕ, zero, suc, ◌+◌, ◌*◌, ◌%◌, ◌≤◌, ◌<◌, ◌≡◌, refl, ◌∙◌, Bool, true, false, List}
+use Rattle.std.proofs.Common.{[], ◌∷◌, ◌++◌, append-nil, append_assoc, arith, zero-add, add-zero, add_assoc}
+use Rattle.std.proofs.Common.{add-one, length, get_or, set, length-set, length-append, get_or-set_same}
+use Rattle.std.proofs.Common.{get_or-set_other, ltb, lt-ltb, le-ltb, ltb-true, ltb-false}
 use Rattle.lines.specs.Line.{choose}
 use Rattle.rules.specs.Track.{Pair, pair}
 use Rattle.control.specs.words.Words.{track_words, track_word, put_track, event_node, event_nodes_from, meetings_from}

@@ -1,16 +1,11 @@
 -- What the loops over a track add to it: `joined` the arcs of the report's `parents`, `met_all` the meetings
 -- of its `meet`. Each turn writes behind all that the loop has yet to read, so the rest of the loop reads
 -- what stood there at its start, and what it adds is appended. Assumes nothing.
-use Prim.Native.Nat.{ℕ, zero, suc, ◌+◌, ◌*◌, ◌≤◌, ◌<◌}
-use mathlib.Core.Path.{◌≡◌, refl, sym, ap, ◌∙◌}
-use mathlib.Core.Bool.{Bool, true, false, ◌||◌}
-use mathlib.Core.List.{List, [], ◌∷◌, ◌++◌}
-use mathlib.Core.Option.{some}
-use native.Mathlib.Omega.{arith}
-use native.Mathlib.Nat.{zero-add, add-zero, add_assoc, suc-mul}
-use lib.ListN.{length, length-append}
-use lib.Dec.{eqb}
-use borrow.Author.Tests.{lt-ltb, le-ltb, eqb-true, eqb-false, eq-eqb, ne_eqb}
+use Rattle.std.proofs.Common.{ℕ, zero, suc, ◌+◌, ◌*◌, ◌≤◌, ◌<◌, ◌≡◌, refl, sym, ap, ◌∙◌, Bool, true, false}
+use Rattle.std.proofs.Common.{◌||◌, List, [], ◌∷◌, ◌++◌, arith, zero-add, add-zero, add_assoc, suc-mul}
+use Rattle.std.proofs.Common.{length, length-append, eqb, lt-ltb, le-ltb, eqb-true, eq-eqb, ne_eqb}
+use Rattle.std.proofs.lemmas.Bool.{eqb-false}
+use Rattle.std.proofs.Math.Option.{some}
 use Rattle.lines.specs.Line.{choose}
 use Rattle.rules.specs.Track.{Pair, pair, parents, each_with, meet}
 use Rattle.rules.specs.Track as Track

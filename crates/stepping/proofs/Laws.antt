@@ -1,11 +1,6 @@
 -- What the step of what stands at a reference comes to, with the words after it, by what its tests found:
 -- each law takes what the calls on the way promise. Assumes nothing.
-use Prim.Native.Nat.{ℕ, suc, ◌+◌, ◌-◌}
-use mathlib.Core.Path.{◌≡◌, sym, ◌∙◌}
-use mathlib.Core.Bool.{Bool, true, false}
-use mathlib.Core.List.{List}
-use lib.Dec.{eqb}
-use borrow.Author.Tests.{eq-eqb, ne_eqb}
+use Rattle.std.proofs.Common.{ℕ, suc, ◌+◌, ◌-◌, ◌≡◌, sym, ◌∙◌, Bool, true, false, List, eqb, eq-eqb, ne_eqb}
 use Rattle.kinds.specs.Kind as Kind
 use Rattle.plans.specs.words.Plan.{kind, second}
 use Rattle.control.specs.words.Words.{node, put}

@@ -1,7 +1,5 @@
 -- What checking a table into its block tells, by what the calls on the way promise. Assumes nothing.
-use Prim.Native.Nat.{ℕ}
-use mathlib.Core.Path.{◌≡◌}
-use mathlib.Core.List.{List, [], ◌∷◌}
+use Rattle.std.proofs.Common.{ℕ, ◌≡◌, List, [], ◌∷◌}
 use Rattle.lines.specs.Judging.{Judged}
 use Rattle.columns.specs.words.Columns.{Columns}
 use Rattle.tables.specs.Table.{Sofar}

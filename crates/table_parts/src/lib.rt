@@ -3,12 +3,11 @@
 
 ghost use Rattle.std.specs.Prelude.{◌≡◌};
 ghost use Rattle.tables.specs.Table.{judged};
-ghost use Rattle.columns.specs.words.Columns.{all_columns};
+ghost use Rattle.columns.specs.words.Held.{held};
 ghost use Rattle.table_parts.specs.code.TableTold as host;
 
 use answers::{DONE, Head, TABLE_STAMP, line_of, of_judged};
-use columns::{After, Kinds, Owners, Payloads, Roots};
-use plans::{Plan, lay_out};
+use plans::{Show, lay_out};
 use tables::check;
 
 // Checks a table's text, and fills a table's block with it and its plan; or tells the refusal and its line.
@@ -16,25 +15,17 @@ pub fn check_parts<'s, 'n, 'b>(
     text: &'s [u8],
     line: &'n mut usize,
     head: &'b mut Head,
-    kinds: &'b mut Kinds,
-    payloads: &'b mut Payloads,
-    owners: &'b mut Owners,
-    after: &'b mut After,
-    roots: &'b mut Roots,
-    plan: &'b mut Plan,
+    show: &'b mut Show,
 ) -> u32
-    ensures { host.with_table result line.new head.new (all_columns kinds.new
-        payloads.new owners.new after.new roots.new) plan.new
-        ≡ host.checked head.old (all_columns kinds.old payloads.old
-        owners.old after.old roots.old) plan.old
-        (judged text.now) }
+    ensures { host.with_table result line.new head.new (held show.new.table) show.new.plan
+        ≡ host.checked head.old (held show.old.table) show.old.plan (judged text.now) }
 {
-    let checked = check(text, kinds, payloads, owners, after, roots);
+    let checked = check(text, &mut show.table);
     *line = line_of(checked);
     let Ok(counts) = checked else {
         return of_judged(checked);
     };
-    lay_out(counts.terms, kinds, payloads, after, roots, plan);
+    lay_out(counts.terms, &show.table, &mut show.plan);
     *head = [TABLE_STAMP, counts.definitions, counts.events, counts.terms];
     DONE
 }

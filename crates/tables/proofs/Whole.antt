@@ -15,6 +15,7 @@ use Rattle.frames.specs.TableFrame.{frame_of, first_refusal}
 use Rattle.tables.specs.Table.{Item, Sofar, taken, unopened, at_start, within, whole_at, number_met}
 use Rattle.tables.specs.Table.{stage_behind, table_lines, judged, text_room}
 use Rattle.columns.specs.words.Columns.{Columns, all_columns}
+use Rattle.columns.specs.words.Held.{no_terms}
 use Rattle.tables.specs.words.Columns.{column, kinds, payloads, owners, roots, afters, columns_of, table_counts}
 use Rattle.tables.specs.words.Columns.{answer, with_columns, outcome}
 use Rattle.filling.specs.words.Preorder.{walked}
@@ -174,19 +175,22 @@ zeros_column n vs h =
     ∙ ap (λ (l : List ℕ). vs ++ l)
     (ap (λ (m : ℕ). drop m (replicate n 0)) (zero-add (length vs)) ∙ drop_zeros (length vs) n)
 
--- an accepted table fills them
-pub accepts : (t : List ℕ) (s : Sofar) (x : Checked) (k p o a r : List ℕ) (c : Columns)
+-- an accepted table fills columns of no term
+pub accepts : (t : List ℕ) (s : Sofar) (x : Checked) (k p o a r : List ℕ) (z c : Columns) → z ≡ no_terms
     → judged t ≡ accepted s → x ≡ answer (judged t)
-    → Filled s k p o r (replicate 1024 0) (replicate 1024 0) (replicate 1024 0) (replicate 64 0) → (n : ℕ)
-    → n ≡ length s.terms → a ≡ walked n k (replicate 1024 0)
+    → Filled s k p o r z.kinds z.payloads z.owners z.roots → (n : ℕ)
+    → n ≡ length s.terms → (b : List ℕ) → b ≡ z.after → a ≡ walked n k b
     → with_columns x (all_columns k p o a r) ≡ outcome c (judged t)
 unfolding outcome kinds payloads owners afters roots
-accepts t s x k p o a r c e q f m terms w =
+accepts t s x k p o a r z c blank e q filled m terms b kept w =
+    let f : Filled s k p o r (replicate 1024 0) (replicate 1024 0) (replicate 1024 0) (replicate 64 0) =
+    rw blank at filled in
+    let zeros : b ≡ replicate 1024 0 = kept ∙ ap (λ (x : Columns). x.after) blank in
     let n : (of : Item → ℕ) → length (map of s.terms) ≤ 1024 =
     λ of. rw (length-map s.terms of) f.terms_fit in
     let ks : k ≡ kinds s = f.kinds_are ∙ zeros_column 1024 _ (n (λ (i : Item). i.kind)) in
     let ps : p ≡ payloads s = f.payloads_are ∙ zeros_column 1024 _ (n (λ (i : Item). i.payload)) in
     let os : o ≡ owners s = f.owners_are ∙ zeros_column 1024 _ (n (λ (i : Item). i.definition)) in
-    let fs : a ≡ afters s = w ∙ ap₂ (λ (j : ℕ) (l : List ℕ). walked j l (replicate 1024 0)) terms ks in
+    let fs : a ≡ afters s = w ∙ ap (walked m k) zeros ∙ ap₂ (λ (j : ℕ) (l : List ℕ). walked j l (replicate 1024 0)) terms ks in
     let rs : r ≡ roots s = f.roots_are ∙ zeros_column 64 _ f.roots_fit in
     rw (q, e, ks, ps, os, fs, rs)

@@ -6,16 +6,16 @@
 ghost use Rattle.std.specs.Prelude.{◌≡◌, ◌≤◌, drop};
 ghost use Rattle.lines.specs.Line.{lines};
 ghost use Rattle.lines.specs.Judging.{judged_from};
-ghost use Rattle.tables.specs.Table as table;
+ghost use Rattle.tables.specs.Table as of;
 ghost use Rattle.tables.specs.Table.{Sofar, judged, seen, table_lines, within};
-ghost use Rattle.columns.specs.words.Columns.{all_columns};
+ghost use Rattle.columns.specs.words.Held.{held};
 ghost use Rattle.tables.specs.Checked.{checked_told};
 ghost use Rattle.tables.specs.words.Columns.{answer, with_columns, outcome};
 ghost use Rattle.tables.specs.words.Filled.{begins, Fills};
 
-use columns::{After, Kinds, Owners, Payloads, Roots};
+use columns::Table;
 use filling::{LEVEL_ROOM, take, walk};
-use frames::{DEFINITION_ROOM, Seen, TERM_ROOM, closes};
+use frames::{Seen, closes};
 use line_reader::{Spelling, next_line};
 use lines::{Line, Refusal, RefusedAt};
 use refusals::{FrameLine, TableOpening, first_line, table_line};
@@ -34,60 +34,30 @@ pub struct TableCounts {
 // Checks a table's text. Where it is accepted, the columns hold the table: `kinds`, `payloads` and `owners`,
 // the definition that each term stands in, `after`, the term behind each term and its subterms, and `roots`,
 // each definition's first term; zeros stand behind. A refusal leaves every column as it was.
-pub fn check(
-    text: &[u8],
-    kinds: &mut Kinds,
-    payloads: &mut Payloads,
-    owners: &mut Owners,
-    after: &mut After,
-    roots: &mut Roots,
-) -> Result<TableCounts, RefusedAt>
-    ensures { with_columns (checked_told result) (all_columns kinds.new payloads.new owners.new
-        after.new roots.new)
-        ≡ outcome (all_columns kinds.old payloads.old owners.old
-        after.old roots.old) (judged text.now) }
+pub fn check(text: &[u8], table: &mut Table) -> Result<TableCounts, RefusedAt>
+    ensures { with_columns (checked_told result) (held table.new)
+        ≡ outcome (held table.old) (judged text.now) }
 {
     if TABLE_TEXT_ROOM < text.len() {
         return Err(Refusal::TextOverRoom.at(0));
     }
     let opening = first_line(text).map_err(|refusal| refusal.at(1))?;
-    let mut own_kinds = [0u8; TERM_ROOM];
-    let mut own_payloads = [0u64; TERM_ROOM];
-    let mut own_owners = [0u8; TERM_ROOM];
-    let mut own_roots = [0u16; DEFINITION_ROOM];
-    let counts = body(
-        text,
-        opening,
-        &mut own_kinds,
-        &mut own_payloads,
-        &mut own_owners,
-        &mut own_roots,
-    )?;
-    let mut own_after = [0u16; TERM_ROOM];
-    walk(&own_kinds, counts.terms, &mut own_after);
-    *kinds = own_kinds;
-    *payloads = own_payloads;
-    *owners = own_owners;
-    *after = own_after;
-    *roots = own_roots;
+    let mut own = Table::new();
+    let counts = body(text, opening, &mut own)?;
+    walk(&own.kinds, counts.terms, &mut own.after);
+    *table = own;
     Ok(counts)
 }
 
-// The lines behind line 1, which opened the table, into columns of the caller's own.
-fn body(
-    text: &[u8],
-    opening: TableOpening,
-    kinds: &mut Kinds,
-    payloads: &mut Payloads,
-    owners: &mut Owners,
-    roots: &mut Roots,
-) -> Result<TableCounts, RefusedAt>
+// The lines behind line 1, which opened the table, into a table of the caller's own.
+fn body(text: &[u8], opening: TableOpening, table: &mut Table) -> Result<TableCounts, RefusedAt>
     requires { opening.definitions ≤ 64 }
-    ensures { Fills
+    ensures fills { Fills
         (judged_from table_lines (within (begins opening.definitions opening.events)) 2
         (lines (drop opening.next text.now)))
-        (checked_told result) kinds.new payloads.new owners.new roots.new
-        kinds.old payloads.old owners.old roots.old }
+        (checked_told result) table.new.kinds table.new.payloads table.new.owners table.new.roots
+        table.old.kinds table.old.payloads table.old.owners table.old.roots }
+    ensures after_kept { table.new.after ≡ table.old.after }
 {
     let mut waiting = [0u8; LEVEL_ROOM];
     let mut s = Seen {
@@ -107,7 +77,7 @@ fn body(
         if closes(frame) {
             return closed(text, next, s, line + 1);
         }
-        s = take(frame, s, &mut waiting, kinds, payloads, owners, roots);
+        s = take(frame, s, &mut waiting, table);
         at = next;
         line += 1;
     }
@@ -116,7 +86,7 @@ fn body(
 // Behind the last line nothing may stand.
 fn closed(text: &[u8], at: usize, s: Seen, line: usize) -> Result<TableCounts, RefusedAt>
     ensures { (t : Sofar) → s ≡ seen t → checked_told result
-        ≡ answer (judged_from table_lines (table.closed t) line (lines (drop at text.now))) }
+        ≡ answer (judged_from table_lines (of.closed t) line (lines (drop at text.now))) }
 {
     match next_line(text, at, Spelling::Desk) {
         Line::End => Ok(TableCounts {

@@ -5,7 +5,7 @@ use Rattle.std.proofs.Common.{ℕ, zero, suc, ◌+◌, ◌-◌, ◌≤◌, ◌<�
 use Rattle.std.proofs.Common.{length, set, take, arith, length-set, length-take-le, take-take, drop-drop}
 use Rattle.std.proofs.lemmas.List.Edits.{sets, sets-eq}
 use borrow.Rule.Slice.PartMut.{put_mid}
-use lib.Seq.{set_out}
+use Rattle.std.proofs.Math.Seq.{set_out}
 use Rattle.lines.specs.Line.{hex, text, LF, two}
 use Rattle.spelling.specs.words.Puts.{Puts}
 use Rattle.spelling.proofs.Putting.{puts_then}

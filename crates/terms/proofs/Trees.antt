@@ -2,17 +2,13 @@
 -- the path lengths due, the terms so far and those trees behind them are complete definitions: a term's
 -- line makes one tree of the trees due to it. At the last line nothing is due, so the terms are that
 -- themselves. Assumes nothing.
-use Prim.Native.Nat.{ℕ, zero, suc, ◌+◌, ◌-◌, ◌≤◌, ◌<◌}
-use mathlib.Core.Path.{◌≡◌, refl, sym, ap, ap₂, ◌∙◌}
-use mathlib.Core.Bool.{Bool, true, false, ◌&&◌}
-use mathlib.Core.List.{List, [], ◌∷◌, ◌++◌, append_assoc, append-nil}
-use mathlib.Core.Option.{none, some}
-use native.Mathlib.Omega.{arith}
-use native.Mathlib.Nat.{add-zero, add-suc, suc-add, zero-add}
-use lib.ListN.{length, get_or, get_elem?, drop, replicate, length-append}
-use lib.Seq.{append_snoc}
-use lib.Dec.{leb, eqb}
-use borrow.Author.Tests.{leb-true}
+use Rattle.std.proofs.Common.{ℕ, zero, suc, ◌+◌, ◌-◌, ◌≤◌, ◌<◌, ◌≡◌, refl, sym, ap, ap₂, ◌∙◌, Bool, true}
+use Rattle.std.proofs.Common.{false, ◌&&◌, List, [], ◌∷◌, ◌++◌, append_assoc, append-nil, arith, add-zero}
+use Rattle.std.proofs.Common.{add-suc, suc-add, zero-add, length, get_or, drop, replicate, length-append, leb}
+use Rattle.std.proofs.Common.{eqb, leb-true}
+use Rattle.std.proofs.Math.Option.{none, some}
+use Rattle.std.proofs.Math.ListN.{get_elem?}
+use Rattle.std.proofs.Math.Seq.{append_snoc}
 use Rattle.lines.specs.Line.{choose, number, Raw, lines}
 use Rattle.lines.specs.Judging.{Judged, accepted, refused, judged_from}
 use Rattle.lines.proofs.Digits.{both}

@@ -1,12 +1,12 @@
 -- What saving, reading and writing tracks tells, by what their tests found and the calls on the way promise. Assumes nothing.
-use Prim.Native.Nat.{ℕ}
-use mathlib.Core.Path.{◌≡◌, ◌∙◌}
-use mathlib.Core.List.{List, [], ◌∷◌}
-use borrow.Author.Tests.{eq-eqb, ne_eqb}
+use Rattle.std.proofs.Common.{ℕ, ◌≡◌, ◌∙◌, List, [], ◌∷◌, replicate, eq-eqb, ne_eqb}
 use Rattle.columns.specs.words.Columns.{columns}
 use Rattle.writing.specs.words.Slice.{with_slice, written}
 use Rattle.writing.specs.Answers.{Saved}
 use Rattle.links.specs.declared.GraphCounts.{GraphCounts}
+use Rattle.links.specs.declared.Work.{Work}
+use Rattle.links.specs.words.Cleared.{cleared}
+use Rattle.control.specs.words.Words.{track_words}
 use Rattle.reading.specs.code.Outcome.{track_read, with_graph}
 use Rattle.reading.specs.Answers.{Read}
 use Rattle.reading.specs.Answers as Track
@@ -31,12 +31,12 @@ module _ (head : List ℕ) (stamp k : ℕ) (k_is : k ≡ unready (head_word head
     unfolding host.saved
     save_written z a slice so r m r_is m_is = rw (r_is, m_is, ← filled _ _ k _ k_is z, ← so)
 
-  module _ (work : host.SaveWork) where
+  module _ (work : Work) where
     pub work_untouched : (k ≡ 0 → ⊥) → work ≡ host.work_after_saving head stamp work
     unfolding host.work_after_saving
     work_untouched h = untouched (λ n. work) _ k _ k_is h
 
-    pub work_cleared : k ≡ 0 → (b : host.SaveWork) → b ≡ host.save_cleared → b ≡ host.work_after_saving head stamp work
+    pub work_cleared : k ≡ 0 → (b : Work) → b ≡ cleared (replicate track_words 0) → b ≡ host.work_after_saving head stamp work
     unfolding host.work_after_saving
     work_cleared z b b_is = b_is ∙ filled _ _ k _ k_is z
 
@@ -60,12 +60,12 @@ module _ (head ks ps xs rs text : List ℕ) (line : ℕ) (found labels graph : L
     unfolding host.read host.found_after told.of_read
     read_accepted counts is = rw (line_is, eq-eqb _ _ stamped, ← so, is)
 
-module _ (head : List ℕ) (work : host.ReadWork) where
+module _ (head : List ℕ) (work : Work) where
   pub reading_untouched : (head_word head 0 ≡ table_stamp → ⊥) → work ≡ host.work_after_reading head work
   unfolding host.work_after_reading
   reading_untouched h = rw (ne_eqb _ _ h)
 
-  pub reading_cleared : head_word head 0 ≡ table_stamp → (b : host.ReadWork) → b ≡ host.read_cleared
+  pub reading_cleared : head_word head 0 ≡ table_stamp → (b : Work) → b ≡ cleared work.graph.track
       → b ≡ host.work_after_reading head work
   unfolding host.work_after_reading
   reading_cleared h b b_is = rw (b_is, eq-eqb _ _ h)
@@ -89,16 +89,3 @@ module _ (head ks os xs rs found labels graph : List ℕ) (l : ℕ) (text : List
         → host.with_text r m slice ≡ host.written_again head ks os xs rs found labels graph l text
     unfolding host.written_again
     write_written h a slice so r m r_is m_is = rw (r_is, m_is, eq-eqb _ _ stamped, eq-eqb _ _ h, ← so)
-
--- ---- room to work in, by its parts
-
-pub all_saving_cleared : (l g m s p n e : List ℕ) → l ≡ host.column_cleared → g ≡ host.track_cleared
-    → m ≡ host.column_cleared → s ≡ host.sides_cleared → p ≡ host.sides_cleared → n ≡ host.column_cleared
-    → e ≡ host.track_cleared → host.save_work l g m s p n e ≡ host.save_cleared
-all_saving_cleared l g m s p n e l_is g_is m_is s_is p_is n_is e_is =
-    rw (l_is, g_is, m_is, s_is, p_is, n_is, e_is)
-
-pub all_reading_cleared : (m t s p n e : List ℕ) → m ≡ host.column_cleared → t ≡ host.track_cleared
-    → s ≡ host.sides_cleared → p ≡ host.sides_cleared → n ≡ host.column_cleared → e ≡ host.column_cleared
-    → host.read_work m t s p n e ≡ host.read_cleared
-all_reading_cleared m t s p n e m_is t_is s_is p_is n_is e_is = rw (m_is, t_is, s_is, p_is, n_is, e_is)

@@ -9,9 +9,9 @@ use answers::{
     DONE, Head, NO_TABLE, NO_TRACK, TABLE_STAMP, TRACK_STAMP, length_of, line_of, of_judged,
     of_saved, unready,
 };
-use columns::{After, Kinds, Owners, Payloads, Roots};
-use control::{Counters, Nodes, Track};
-use links::{Column, GraphCounts, SideWords};
+use columns::Table;
+use control::Run;
+use links::{Graph, GraphCounts, Work};
 use reading::read_track;
 use saving::save;
 use writing::write;
@@ -21,40 +21,22 @@ pub fn save_parts<'s, 'n, 'b>(
     text: &'s mut [u8],
     length: &'n mut usize,
     head: &'b Head,
-    kinds: &'b Kinds,
-    owners: &'b Owners,
-    after: &'b After,
-    roots: &'b Roots,
+    table: &'b Table,
     stamp: &'b usize,
-    nodes: &'b Nodes,
-    track: &'b Track,
-    counters: &'b Counters,
-    labels: &'b mut Column,
-    graph: &'b mut Track,
-    marks: &'b mut Column,
-    sides: &'b mut SideWords,
-    pending: &'b mut SideWords,
-    numbers: &'b mut Column,
-    spare: &'b mut Track,
+    run: &'b Run,
+    work: &'b mut Work,
 ) -> u32
     ensures text_after { host.with_text result length.new text.new
-        ≡ host.saved head.now stamp.now kinds.now owners.now
-        after.now roots.now nodes.now track.now counters.now
+        ≡ host.saved head.now stamp.now table.now.kinds table.now.owners
+        table.now.after table.now.roots run.now.words.nodes run.now.words.track run.now.counters
         length.old text.old }
-    ensures spare_after { host.save_work labels.new graph.new marks.new sides.new
-        pending.new numbers.new spare.new
-        ≡ host.work_after_saving head.now stamp.now (host.save_work labels.old
-        graph.old marks.old sides.old pending.old numbers.old
-        spare.old) }
+    ensures work_after { work.new ≡ host.work_after_saving head.now stamp.now work.old }
 {
     let unready = unready(head[0], *stamp);
     if unready != DONE {
         return unready;
     }
-    let saved = save(
-        kinds, owners, after, roots, nodes, track, counters, labels, graph, marks, sides, pending,
-        numbers, spare, text,
-    );
+    let saved = save(table, run, work, text);
     *length = length_of(saved);
     of_saved(saved)
 }
@@ -64,49 +46,22 @@ pub fn read_parts<'s, 'n, 'b>(
     text: &'s [u8],
     line: &'n mut usize,
     head: &'b Head,
-    kinds: &'b Kinds,
-    payloads: &'b Payloads,
-    after: &'b After,
-    roots: &'b Roots,
+    table: &'b Table,
     found: &'b mut Head,
-    labels: &'b mut Column,
-    graph: &'b mut Track,
-    marks: &'b mut Column,
-    track: &'b mut Track,
-    sides: &'b mut SideWords,
-    pending: &'b mut SideWords,
-    numbers: &'b mut Column,
-    walked: &'b mut Column,
+    graph: &'b mut Graph,
+    work: &'b mut Work,
 ) -> u32
-    ensures graph_after { host.with_track result line.new found.new labels.new graph.new
-        ≡ host.read head.now kinds.now payloads.now after.now
-        roots.now text.now line.old found.old labels.old
-        graph.old }
-    ensures walked_after { host.read_work marks.new track.new sides.new pending.new
-        numbers.new walked.new
-        ≡ host.work_after_reading head.now (host.read_work marks.old track.old
-        sides.old pending.old numbers.old walked.old) }
+    ensures graph_after { host.with_track result line.new found.new graph.new.labels graph.new.track
+        ≡ host.read head.now table.now.kinds table.now.payloads table.now.after
+        table.now.roots text.now line.old found.old graph.old.labels
+        graph.old.track }
+    ensures work_after { work.new ≡ host.work_after_reading head.now work.old }
 {
     if head[0] != TABLE_STAMP {
         return NO_TABLE;
     }
     let definitions = head[1];
-    let read = read_track(
-        text,
-        definitions,
-        kinds,
-        payloads,
-        after,
-        roots,
-        labels,
-        graph,
-        marks,
-        track,
-        sides,
-        pending,
-        numbers,
-        walked,
-    );
+    let read = read_track(text, definitions, table, graph, work);
     *line = line_of(read);
     let Ok(counts) = read else {
         return of_judged(read);
@@ -120,17 +75,13 @@ pub fn write_parts<'s, 'n, 'b>(
     text: &'s mut [u8],
     length: &'n mut usize,
     head: &'b Head,
-    kinds: &'b Kinds,
-    owners: &'b Owners,
-    after: &'b After,
-    roots: &'b Roots,
+    table: &'b Table,
     found: &'b Head,
-    labels: &'b Column,
-    graph: &'b Track,
+    graph: &'b Graph,
 ) -> u32
     ensures { host.with_text result length.new text.new
-        ≡ host.written_again head.now kinds.now owners.now after.now
-        roots.now found.now labels.now graph.now
+        ≡ host.written_again head.now table.now.kinds table.now.owners table.now.after
+        table.now.roots found.now graph.now.labels graph.now.track
         length.old text.old }
 {
     if head[0] != TABLE_STAMP {
@@ -144,7 +95,7 @@ pub fn write_parts<'s, 'n, 'b>(
         arcs: found[2],
         meetings: found[3],
     };
-    let written = write(counts, labels, graph, kinds, owners, after, roots, text);
+    let written = write(counts, graph, table, text);
     *length = length_of(written);
     of_saved(written)
 }

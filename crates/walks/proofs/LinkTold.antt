@@ -2,11 +2,12 @@
 -- to its side x lead to those of its labelled targets that have slot x, and slots are the sides of places; so all arcs
 -- fit exactly where no node branches but as its place may, the words of sides then tell the ways on, and the walk over
 -- them is the graph's. Assumes nothing.
-use Rattle.std.proofs.Common.{ℕ, zero, suc, ◌+◌, ◌*◌, ◌≤◌, ◌<◌, ◌≡◌, refl, sym, ap, ap₂, ◌∙◌, Bool, true, false, ◌&&◌, ◌||◌}
-use Rattle.std.proofs.Common.{not, List, [], ◌∷◌, ◌++◌, arith, length, replicate, leb, eqb, leb-true, le-leb, lt-ltb}
+use Rattle.std.proofs.Common.{ℕ, zero, suc, ◌+◌, ◌*◌, ◌≤◌, ◌<◌, ◌≡◌, refl, sym, ap, ap₂, ◌∙◌, Bool, true}
+use Rattle.std.proofs.Common.{false, ◌&&◌, ◌||◌, not, List, [], ◌∷◌, ◌++◌, arith, length, replicate, leb, eqb}
+use Rattle.std.proofs.Common.{leb-true, le-leb, lt-ltb}
+use Rattle.std.proofs.lemmas.Bool.{lt-leb}
 use mathlib.Core.List.{Memᴰ}
-use mathlib.Core.Option.{Option, none, some}
-use borrow.Author.Tests.{lt-leb}
+use Rattle.std.proofs.Math.Option.{Option, none, some}
 use Rattle.lines.specs.Line.{choose}
 use Rattle.lines.specs.Judging.{accepted}
 use Rattle.lines.proofs.Digits.{both}

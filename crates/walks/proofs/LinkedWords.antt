@@ -1,12 +1,12 @@
 -- Linking arcs one by one keeps the words of sides: the word of a side of a marked reference is 0 where no arc so far
 -- leads there, and one more than where the only such arc leads. An arc finds its side free exactly where it is the
 -- first one there, so all arcs fit exactly where no side has two and each arc has a side. Assumes nothing.
-use Rattle.std.proofs.Common.{ℕ, suc, ◌+◌, ◌*◌, ◌%◌, ◌≤◌, ◌<◌, ◌≡◌, refl, sym, ap, ap₂, ◌∙◌, Bool, true, false, ◌&&◌, ◌||◌}
-use Rattle.std.proofs.Common.{not, List, [], ◌∷◌, ◌++◌, append-nil, append_assoc, arith, length, set, replicate}
-use Rattle.std.proofs.Common.{length-append, length-set, get_or-set_same, get_or-set_other, ltb, eqb, eqb-true, eq-eqb}
-use Rattle.std.proofs.Common.{ne_eqb, ltb-true, ltb-false}
-use lib.ListN.{length-replicate, get_or-replicate}
-use borrow.Author.Tests.{eqb-false, not-true}
+use Rattle.std.proofs.Common.{ℕ, suc, ◌+◌, ◌*◌, ◌%◌, ◌≤◌, ◌<◌, ◌≡◌, refl, sym, ap, ap₂, ◌∙◌, Bool, true}
+use Rattle.std.proofs.Common.{false, ◌&&◌, ◌||◌, not, List, [], ◌∷◌, ◌++◌, append-nil, append_assoc, arith}
+use Rattle.std.proofs.Common.{length, set, replicate, length-append, length-set, get_or-set_same}
+use Rattle.std.proofs.Common.{get_or-set_other, ltb, eqb, eqb-true, eq-eqb, ne_eqb, ltb-true, ltb-false}
+use Rattle.std.proofs.lemmas.Bool.{eqb-false, not-true}
+use Rattle.std.proofs.lemmas.List.{length-replicate, get_or-replicate}
 use Rattle.lines.specs.Line.{choose}
 use Rattle.lines.proofs.Digits.{both}
 use Rattle.columns.specs.words.Columns.{look}

@@ -1,11 +1,10 @@
 -- Numbers given to references one after the other: who has none has the word that there was, who has one has a word
 -- that is not 0, and one reference more is one word more. Assumes nothing.
-use Rattle.std.proofs.Common.{ℕ, suc, ◌+◌, ◌<◌, ◌≡◌, refl, ap, ◌∙◌, Bool, true, false, List, [], ◌∷◌, ◌++◌, ⊎_elim, arith}
-use Rattle.std.proofs.Common.{add-zero, add-one, length, get_or, set, replicate, length-set, get_or-set_same}
-use Rattle.std.proofs.Common.{get_or-set_other, eqb, eqb-true}
-use mathlib.Core.List.{map-append}
-use lib.ListN.{length-replicate, length-map, get_or-replicate}
-use borrow.Author.Tests.{eqb-false}
+use Rattle.std.proofs.Common.{ℕ, suc, ◌+◌, ◌<◌, ◌≡◌, refl, ap, ◌∙◌, Bool, true, false, List, [], ◌∷◌, ◌++◌}
+use Rattle.std.proofs.Common.{⊎_elim, arith, add-zero, add-one, length, get_or, set, replicate, length-set}
+use Rattle.std.proofs.Common.{get_or-set_same, get_or-set_other, eqb, eqb-true}
+use Rattle.std.proofs.lemmas.Bool.{eqb-false}
+use Rattle.std.proofs.lemmas.List.{map-append, length-replicate, length-map, get_or-replicate}
 use Rattle.tables.proofs.Kept.{sets_snoc}
 use Rattle.control.specs.words.Words.{reference_room}
 use Rattle.graphs.specs.Walk.{among}

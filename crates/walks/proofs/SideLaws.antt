@@ -2,10 +2,10 @@
 -- side has terms. So a path begins with a term's path and a side's digit exactly where its number is one of the
 -- run's: going down both paths together, either both go into one side, or they part into two sides, whose runs are
 -- apart. Assumes nothing.
-use Rattle.std.proofs.Common.{ℕ, ◌+◌, ◌≤◌, ◌<◌, ◌≡◌, refl, sym, ap, ◌∙◌, Bool, true, false, ◌&&◌, List, [], ◌∷◌, ◌++◌, ◌⊎◌}
-use Rattle.std.proofs.Common.{inl, inr, arith, add_assoc, leb, ltb, eqb, ltb-true, ltb-false, lt-ltb, le-ltb, leb-true}
-use Rattle.std.proofs.Common.{leb-false, le-leb, eq-eqb, ne_eqb}
-use borrow.Author.Tests.{lt-leb}
+use Rattle.std.proofs.Common.{ℕ, ◌+◌, ◌≤◌, ◌<◌, ◌≡◌, refl, sym, ap, ◌∙◌, Bool, true, false, ◌&&◌, List, []}
+use Rattle.std.proofs.Common.{◌∷◌, ◌++◌, ◌⊎◌, inl, inr, arith, add_assoc, leb, ltb, eqb, ltb-true, ltb-false}
+use Rattle.std.proofs.Common.{lt-ltb, le-ltb, leb-true, leb-false, le-leb, eq-eqb, ne_eqb}
+use Rattle.std.proofs.lemmas.Bool.{lt-leb}
 use Rattle.terms.specs.Term.{Term, size}
 use Rattle.places.specs.Place.{path_in, term_at, IsPrefix, PrefixAt, begins}
 use Rattle.places.proofs.Sides.{Side, only, first, second, by_number, side_first, side_inside, side_at}

@@ -1,13 +1,14 @@
 -- What the marks of a graph in columns tell of a checked table. A mark is the start's or that of a literal of one
 -- definition's tree, its own or its event; its number lies in the run of a side exactly where its path begins with
 -- that side's, so columns tell which literals split and which side of a literal another stands on. Assumes nothing.
-use Rattle.std.proofs.Common.{ℕ, zero, suc, ◌+◌, ◌*◌, ◌≤◌, ◌<◌, ◌≡◌, refl, sym, ap, subst, ◌∙◌, Bool, true, false, ◌&&◌}
-use Rattle.std.proofs.Common.{◌||◌, not, List, [], ◌∷◌, ◌++◌, append-nil, inl, inr, arith, add_assoc, add-one, length}
-use Rattle.std.proofs.Common.{get_or, leb, ltb, eqb, eqb-true, ne_eqb, ltb-true, ltb-false, le-ltb, leb-true, leb-false}
-use mathlib.Core.Bool.{and-false}
-use mathlib.Core.Option.{Option, none, some, some-injective}
-use lib.ListN.{get_elem?}
-use borrow.Author.Tests.{eqb-false}
+use Rattle.std.proofs.Common.{ℕ, zero, suc, ◌+◌, ◌*◌, ◌≤◌, ◌<◌, ◌≡◌, refl, sym, ap, subst, ◌∙◌, Bool, true}
+use Rattle.std.proofs.Common.{false, ◌&&◌, ◌||◌, not, List, [], ◌∷◌, ◌++◌, append-nil, inl, inr, arith}
+use Rattle.std.proofs.Common.{add_assoc, add-one, length, get_or, leb, ltb, eqb, eqb-true, ne_eqb, ltb-true}
+use Rattle.std.proofs.Common.{ltb-false, le-ltb, leb-true, leb-false}
+use Rattle.std.proofs.lemmas.Bool.{eqb-false}
+use Rattle.std.proofs.Math.Bool.{and-false}
+use Rattle.std.proofs.Math.Option.{Option, none, some, some-injective}
+use Rattle.std.proofs.Math.ListN.{get_elem?}
 use Rattle.lines.specs.Line.{choose}
 use Rattle.lines.specs.Judging.{accepted}
 use Rattle.kinds.specs.Kind as Kind

@@ -2,13 +2,13 @@
 -- passed, and another gets the next number, and where it leads is put on top. What is numbered, with the walk of
 -- what is pending, is the whole walk; each number that is given leaves room for two more to be pending. Assumes
 -- nothing.
-use Rattle.std.proofs.Common.{ℕ, zero, suc, ◌+◌, ◌*◌, ◌-◌, ◌≤◌, ◌<◌, ◌≡◌, refl, sym, subst, ◌∙◌, Bool, true, false, not}
-use Rattle.std.proofs.Common.{List, [], ◌∷◌, ◌++◌, append_assoc, length, get_or, set, replicate, length-append}
-use Rattle.std.proofs.Common.{get_or-set_same, get_or-set_other, arith, add-zero, add-one, ltb, eqb, ltb-true, lt-ltb}
-use Rattle.std.proofs.Common.{le-ltb}
+use Rattle.std.proofs.Common.{ℕ, zero, suc, ◌+◌, ◌*◌, ◌-◌, ◌≤◌, ◌<◌, ◌≡◌, refl, sym, subst, ◌∙◌, Bool, true}
+use Rattle.std.proofs.Common.{false, not, List, [], ◌∷◌, ◌++◌, append_assoc, length, get_or, set, replicate}
+use Rattle.std.proofs.Common.{length-append, get_or-set_same, get_or-set_other, arith, add-zero, add-one, ltb}
+use Rattle.std.proofs.Common.{eqb, ltb-true, lt-ltb, le-ltb}
+use Rattle.std.proofs.lemmas.List.{length-replicate, get_or-replicate}
 use Rattle.std.proofs.lemmas.List.Edits.{sets}
-use lib.ListN.{length-replicate, get_or-replicate}
-use lib.Seq.{length-sets}
+use Rattle.std.proofs.Math.Seq.{length-sets}
 use mir.Val.{bool_byte}
 use Rattle.lines.specs.Line.{choose}
 use Rattle.columns.specs.words.Columns.{look}

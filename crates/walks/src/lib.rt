@@ -13,7 +13,8 @@ use control::REFERENCES;
 use links::{Column, SIDE_WORDS, SideWords, reference_word, side_word};
 
 // Numbers the marked references that the sides lead to from reference 0 on: `numbers` gets one more than the number of each,
-// `labels` the marks by number. `pending` is scratch, and all 0 afterwards.
+// `labels` the marks by number. `pending` is scratch, and all 0 afterwards. All are lent one by one: saving and reading keep
+// labels in different columns.
 pub fn walk(
     marks: &Column,
     sides: &SideWords,
@@ -51,7 +52,7 @@ fn pending_first(marks: &Column) -> usize
     usize::from(reference_word(0, marks) != 0)
 }
 
-// Gives a node the next number, and its mark the next place; how many nodes have numbers then.
+// Gives a node the next number, and its mark the next place; how many nodes have numbers then. Columns one by one, as in `walk`.
 fn give_number(
     node: usize,
     count: usize,
@@ -69,7 +70,7 @@ fn give_number(
     count + 1
 }
 
-// Puts where a side of a node leads on top of what is pending; how many are pending then.
+// Puts where a side of a node leads on top of what is pending; how many are pending then. Columns one by one, as in `walk`.
 fn push(node: usize, side: usize, top: usize, sides: &SideWords, pending: &mut SideWords) -> usize
     requires { (node < reference_room) × (side ≤ 2) × (top < side_words) }
     ensures value { result ≡ top + length (target (look side_words sides.now (2 * node + side))) }

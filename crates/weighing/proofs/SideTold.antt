@@ -2,10 +2,10 @@
 -- what entering them adds in front, what the rules make of them is the weight of the split's step, with the
 -- sequences around it. The same laws serve a term that no step has touched and an entered choice or parallel.
 -- Assumes nothing.
-use Rattle.std.proofs.Common.{ℕ, suc, ◌+◌, ◌*◌, ◌-◌, ◌<◌, ◌≡◌, refl, sym, ap, ◌∙◌, Bool, true, false, ◌&&◌, List, []}
-use Rattle.std.proofs.Common.{◌∷◌, ◌++◌, arith, length, length-append, eqb}
+use Rattle.std.proofs.Common.{ℕ, suc, ◌+◌, ◌*◌, ◌-◌, ◌<◌, ◌≡◌, refl, sym, ap, ◌∙◌, Bool, true, false, ◌&&◌}
+use Rattle.std.proofs.Common.{List, [], ◌∷◌, ◌++◌, arith, length, length-append, eqb, add_comm, zero-mul}
+use Rattle.std.proofs.Common.{suc-mul}
 use Rattle.std.proofs.Math.Option.{Option, none, some}
-use native.Mathlib.Nat.{add_comm, zero-mul, suc-mul}
 use Rattle.lines.specs.Line.{choose}
 use Rattle.sets.specs.EventSet.{member}
 use Rattle.kinds.specs.Kind as Kind

@@ -5,7 +5,7 @@ use Rattle.std.proofs.Common.{ℕ, zero, suc, ◌+◌, ◌*◌, ◌-◌, ◌≤�
 use Rattle.std.proofs.Common.{false, List, [], ◌∷◌, arith, length, length-append, get_or, ltb, ltb-true, lt-ltb}
 use Rattle.std.proofs.Common.{ne_eqb}
 use Rattle.std.proofs.Math.Option.{Option, none, some}
-use lib.ListN.{get_elem?}
+use Rattle.std.proofs.Math.ListN.{get_elem?}
 use Rattle.lines.specs.Line.{choose}
 use Rattle.frames.specs.TableFrame.{term_room, path_room}
 use Rattle.places.specs.Place.{Place}

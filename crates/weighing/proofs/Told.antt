@@ -2,10 +2,10 @@
 -- count that stops at 65,535. The sequences around a part carry its step on, each with a cell of its own, or
 -- where it ends the innermost starts its right: that is what `settled` makes of the part's weight. Assumes
 -- nothing.
-use Rattle.std.proofs.Common.{ℕ, suc, ◌+◌, ◌-◌, ◌≤◌, ◌<◌, ◌≡◌, refl, sym, ap, subst, ◌∙◌, Bool, true, false, ◌&&◌}
-use Rattle.std.proofs.Common.{List, [], ◌∷◌, ◌++◌, arith, length, length-append, get_or, ltb, ltb-true, le-ltb}
+use Rattle.std.proofs.Common.{ℕ, suc, ◌+◌, ◌-◌, ◌≤◌, ◌<◌, ◌≡◌, refl, sym, ap, subst, ◌∙◌, Bool, true, false}
+use Rattle.std.proofs.Common.{◌&&◌, List, [], ◌∷◌, ◌++◌, arith, length, length-append, get_or, ltb, ltb-true}
+use Rattle.std.proofs.Common.{le-ltb, zero-add}
 use Rattle.std.proofs.Math.Option.{Option, none, some}
-use native.Mathlib.Nat.{zero-add}
 use Rattle.lines.specs.Line.{choose}
 use Rattle.places.specs.Place.{Place}
 use Rattle.terms.specs.Term.{Term}

@@ -6,12 +6,10 @@ ghost use Rattle.std.specs.Prelude.{◌≡◌};
 ghost use Rattle.weighing.specs.code.Weigh as spec;
 ghost use Rattle.weighing.specs.code.Ending as ending;
 
-use columns::{Payloads, payload_of};
-use control::{
-    ENTERED, FRAME, Nodes, OMEGA, SIDES, SIZES, STATE, TERM, Track, UNTOUCHED, sum, word,
-};
+use columns::payload_of;
+use control::{ENTERED, FRAME, OMEGA, SIDES, SIZES, STATE, TERM, UNTOUCHED, Words, sum, word};
 use looking::{digit_at, inside_of, is_side, is_split, is_within, parents, taken};
-use plans::{PARALLEL_WORD, Plan, SEQUENCE_WORD, around_of, kind_of, operand_of, second_of};
+use plans::{PARALLEL_WORD, SEQUENCE_WORD, Show, around_of, kind_of, operand_of, second_of};
 use scripts::Digits;
 use weights::{Weight, both, by_leaf, end_of, ended, entering, one};
 
@@ -19,7 +17,8 @@ use weights::{Weight, both, by_leaf, end_of, ended, entering, one};
 const WEIGH_LEVELS: usize = 66;
 
 // Weighs the step of a term that no step has touched, by the digits from `at` on; `nested` where a sequence is
-// around it by its frame. Its part of control has `size` cells.
+// around it by its frame. Its part of control has `size` cells. The digits' count stands beside them (`looking::digit_at`), here and
+// in `weigh_at`.
 fn weigh_term(
     t: usize,
     nested: bool,
@@ -28,37 +27,36 @@ fn weigh_term(
     left: usize,
     count: usize,
     digits: &Digits,
-    plan: &Plan,
-    sets: &Payloads,
+    show: &Show,
 ) -> Option<Weight>
-    ensures { result ≡ spec.of_term plan.now sets.now count digits.now
+    ensures { result ≡ spec.of_term show.now.plan show.now.table.payloads count digits.now
         left t nested at size }
 {
     if left == 0 {
         return None;
     }
-    let kind = kind_of(t, plan);
+    let kind = kind_of(t, &show.plan);
     let less = left - 1;
     let first = sum(t, 1);
     if kind == SEQUENCE_WORD {
         let larger = sum(size, 1);
-        return weigh_term(first, nested, at, larger, less, count, digits, plan, sets);
+        return weigh_term(first, nested, at, larger, less, count, digits, show);
     }
     let digit = digit_at(at, count, digits);
-    let within = is_within(nested, around_of(t, plan));
+    let within = is_within(nested, around_of(t, &show.plan));
     if !is_split(kind) {
-        return by_leaf(kind, operand_of(t, plan), digit, within, at, size);
+        return by_leaf(kind, operand_of(t, &show.plan), digit, within, at, size);
     }
     if !is_side(digit) {
         return None;
     }
-    let second = second_of(t, plan);
+    let second = second_of(t, &show.plan);
     let next = sum(at, 1);
-    let set = payload_of(t, sets);
+    let set = payload_of(t, &show.table.payloads);
     let larger = sum(size, 2);
     let taken = taken(digit, first, second);
     let found = entering(
-        weigh_term(taken, false, next, 1, less, count, digits, plan, sets),
+        weigh_term(taken, false, next, 1, less, count, digits, show),
         1,
     );
     if digit != 3 {
@@ -66,7 +64,7 @@ fn weigh_term(
     }
     let from = end_of(found, count);
     let other = entering(
-        weigh_term(second, false, from, 1, less, count, digits, plan, sets),
+        weigh_term(second, false, from, 1, less, count, digits, show),
         0,
     );
     both(kind, set, found, other, larger, 1, 1)
@@ -84,24 +82,22 @@ pub fn weigh_at(
     count: usize,
     arcs: usize,
     digits: &Digits,
-    plan: &Plan,
-    sets: &Payloads,
-    nodes: &Nodes,
-    track: &Track,
+    show: &Show,
+    words: &Words,
 ) -> Option<Weight>
-    ensures { result ≡ spec.at_reference plan.now sets.now count digits.now
-        nodes.now track.now arcs left n t bound at size }
+    ensures { result ≡ spec.at_reference show.now.plan show.now.table.payloads count digits.now
+        words.now.nodes words.now.track arcs left n t bound at size }
 {
     if left == 0 {
         return None;
     }
     if n == 0 {
-        let found = weigh_term(t, false, at, 1, WEIGH_LEVELS, count, digits, plan, sets);
+        let found = weigh_term(t, false, at, 1, WEIGH_LEVELS, count, digits, show);
         return entering(found, 0);
     }
-    let state = word(n, STATE, nodes);
-    let term = word(n, TERM, nodes);
-    let frame = word(n, FRAME, nodes);
+    let state = word(n, STATE, &words.nodes);
+    let term = word(n, TERM, &words.nodes);
+    let frame = word(n, FRAME, &words.nodes);
     if state == UNTOUCHED {
         return weigh_term(
             term,
@@ -111,42 +107,41 @@ pub fn weigh_at(
             WEIGH_LEVELS,
             count,
             digits,
-            plan,
-            sets,
+            show,
         );
     }
     if state != ENTERED {
         return None;
     }
-    let kind = kind_of(term, plan);
+    let kind = kind_of(term, &show.plan);
     let digit = digit_at(at, count, digits);
-    let within = is_within(frame != bound, around_of(term, plan));
+    let within = is_within(frame != bound, around_of(term, &show.plan));
     if digit == 4 {
-        return weigh_end(n, kind, at, size, within, arcs, nodes, track);
+        return weigh_end(n, kind, at, size, within, arcs, words);
     }
     if !is_side(digit) {
         return None;
     }
-    let second = second_of(term, plan);
+    let second = second_of(term, &show.plan);
     let next = sum(at, 1);
-    let set = payload_of(term, sets);
+    let set = payload_of(term, &show.table.payloads);
     let less = left - 1;
-    let inside = inside_of(kind, term, n, frame, plan);
+    let inside = inside_of(kind, term, n, frame, &show.plan);
     let side = taken(digit, 1, 2);
-    let own = word(n, SIZES + side, nodes);
-    let other = word(n, SIZES + 3 - side, nodes);
-    let reference = word(n, SIDES + side, nodes);
+    let own = word(n, SIZES + side, &words.nodes);
+    let other = word(n, SIZES + 3 - side, &words.nodes);
+    let reference = word(n, SIDES + side, &words.nodes);
     let subterm = taken(digit, sum(term, 1), second);
     let found = weigh_at(
-        reference, subterm, inside, next, own, less, count, arcs, digits, plan, sets, nodes, track,
+        reference, subterm, inside, next, own, less, count, arcs, digits, show, words,
     );
     if digit != 3 {
         return one(kind, set, found, size, own, other, within);
     }
     let from = end_of(found, count);
-    let right = word(n, SIDES + 2, nodes);
+    let right = word(n, SIDES + 2, &words.nodes);
     let across = weigh_at(
-        right, second, inside, from, other, less, count, arcs, digits, plan, sets, nodes, track,
+        right, second, inside, from, other, less, count, arcs, digits, show, words,
     );
     both(kind, set, found, across, size, own, other)
 }
@@ -159,18 +154,17 @@ fn weigh_end(
     size: usize,
     within: bool,
     arcs: usize,
-    nodes: &Nodes,
-    track: &Track,
+    words: &Words,
 ) -> Option<Weight>
-    ensures { result ≡ ending.weigh_end nodes.now track.now arcs n kind at size within }
+    ensures { result ≡ ending.weigh_end words.now.nodes words.now.track arcs n kind at size within }
 {
     if kind != PARALLEL_WORD {
         return None;
     }
-    let first = word(n, SIDES + 1, nodes);
-    let second = word(n, SIDES + 2, nodes);
-    if word(first, STATE, nodes) != OMEGA || word(second, STATE, nodes) != OMEGA {
+    let first = word(n, SIDES + 1, &words.nodes);
+    let second = word(n, SIDES + 2, &words.nodes);
+    if word(first, STATE, &words.nodes) != OMEGA || word(second, STATE, &words.nodes) != OMEGA {
         return None;
     }
-    ended(at, size, parents(first, second, arcs, track), within)
+    ended(at, size, parents(first, second, arcs, &words.track), within)
 }

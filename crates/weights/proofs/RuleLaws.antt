@@ -1,9 +1,9 @@
 -- What each rule makes of the weights of its premises, by what its tests found: whether there is a weight,
 -- the kind, and the event. Assumes nothing.
-use Rattle.std.proofs.Common.{ℕ, zero, suc, ◌+◌, ◌*◌, ◌-◌, ◌%◌, ◌≤◌, ◌<◌, ◌≡◌, refl, Bool, true, false, eqb, arith}
-use Rattle.std.proofs.Common.{le-leb, eq-eqb, ne_eqb}
-use mathlib.Core.Bool.{and-false}
-use borrow.Author.Tests.{lt-leb}
+use Rattle.std.proofs.Common.{ℕ, zero, suc, ◌+◌, ◌*◌, ◌-◌, ◌%◌, ◌≤◌, ◌<◌, ◌≡◌, refl, Bool, true, false, eqb}
+use Rattle.std.proofs.Common.{arith, le-leb, eq-eqb, ne_eqb}
+use Rattle.std.proofs.lemmas.Bool.{lt-leb}
+use Rattle.std.proofs.Math.Bool.{and-false}
 use Rattle.kinds.specs.Kind as Kind
 use Rattle.sets.specs.EventSet.{member}
 use Rattle.rules.specs.declared.Event.{Event}

@@ -3,19 +3,19 @@
 #![tactic(auto)]
 
 ghost use Rattle.std.specs.Prelude.{◌≡◌};
-ghost use Rattle.columns.specs.words.Columns.{columns};
+ghost use Rattle.columns.specs.words.Held.{placing};
 ghost use Rattle.graphs.specs.Saved.{graph_text};
 ghost use Rattle.framing.specs.words.Told.{graph_told};
 ghost use Rattle.lines.specs.Refusal.{met};
 ghost use Rattle.writing.specs.Answers.{saved_told};
 ghost use Rattle.writing.specs.words.Slice.{with_slice, written, refusal};
 
-use columns::{After, Kinds, Owners, Roots};
-use control::{MEETINGS_FROM, REFERENCES, Track};
+use columns::Table;
+use control::{MEETINGS_FROM, REFERENCES};
 use framing::{nodes_length, put_last, put_nodes, put_opening, put_pairs};
 use graphs::{ARC_FRAME, MEETING_FRAME};
 use lines::Refusal;
-use links::{Column, GraphCounts};
+use links::{Graph, GraphCounts};
 use rules::{ARC_ROOM, MEETING_ROOM};
 
 // Bytes of the first and the last line, and of an arc's or a meeting's.
@@ -33,32 +33,32 @@ pub struct TooShort {
 // as it was, and bytes past the text keep their content.
 pub fn write(
     counts: GraphCounts,
-    labels: &Column,
-    graph: &Track,
-    kinds: &Kinds,
-    owners: &Owners,
-    after: &After,
-    roots: &Roots,
+    graph: &Graph,
+    table: &Table,
     text: &mut [u8],
 ) -> Result<usize, TooShort>
     ensures { with_slice (saved_told result) text.new ≡ written (graph_text (graph_told
-        (columns kinds.now owners.now after.now roots.now)
-        labels.now graph.now counts)) text.old }
+        (placing table.now)
+        graph.now.labels graph.now.track counts)) text.old }
 {
     let n = counts.nodes.min(REFERENCES);
     let a = counts.arcs.min(ARC_ROOM);
     let s = counts.meetings.min(MEETING_ROOM);
-    let size = nodes_length(n, labels, kinds, owners, after, roots)
-        + PAIR_LINE * a
-        + PAIR_LINE * s
-        + FRAME_LINES;
+    let size = nodes_length(n, &graph.labels, table) + PAIR_LINE * a + PAIR_LINE * s + FRAME_LINES;
     if text.len() < size {
         return Err(TooShort { length: size });
     }
     let behind_opening = put_opening(n, a, s, text);
-    let behind_nodes = put_nodes(n, labels, kinds, owners, after, roots, behind_opening, text);
-    let behind_arcs = put_pairs(ARC_FRAME, 0, a, graph, behind_nodes, text);
-    let behind_meetings = put_pairs(MEETING_FRAME, MEETINGS_FROM, s, graph, behind_arcs, text);
+    let behind_nodes = put_nodes(n, &graph.labels, table, behind_opening, text);
+    let behind_arcs = put_pairs(ARC_FRAME, 0, a, &graph.track, behind_nodes, text);
+    let behind_meetings = put_pairs(
+        MEETING_FRAME,
+        MEETINGS_FROM,
+        s,
+        &graph.track,
+        behind_arcs,
+        text,
+    );
     put_last(behind_meetings, text);
     Ok(size)
 }

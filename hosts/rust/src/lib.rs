@@ -40,13 +40,13 @@
 //!
 //! | call | bytes |
 //! |---|---|
-//! | [`list`] | 2,143,808 |
-//! | [`Run::play`] | 1,639,728 |
-//! | [`Run::step`] | 1,639,600 |
-//! | [`Run::offers`], [`Run::status`] | 206,352 |
-//! | [`Table::check`] | 12,776 |
-//! | [`Run::save`] | 640 |
-//! | [`Track::write`] | 432 |
+//! | [`list`] | 2,143,632 |
+//! | [`Run::play`] | 1,639,616 |
+//! | [`Run::step`] | 1,639,536 |
+//! | [`Run::offers`], [`Run::status`] | 205,296 |
+//! | [`Table::check`] | 12,744 |
+//! | [`Run::save`] | 448 |
+//! | [`Track::write`] | 352 |
 //! | [`Track::read`] | 328 |
 //! | [`Run::start`] | 24 |
 //!

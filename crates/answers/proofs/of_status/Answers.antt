@@ -1,5 +1,5 @@
 -- `answers::of_status` meets its contract: each arm knows the status. Assumes nothing.
-use mathlib.Core.Path.{sym, ap}
+use Rattle.std.proofs.Common.{sym, ap}
 use Rattle.answers.specs.Numbers.{of_status}
 use Rattle.answers.proofs.of_status.Goals as goal
 

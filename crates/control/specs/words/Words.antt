@@ -1,6 +1,7 @@
 -- The words of a run: eight for each reference, and those of a track; 0 out of range, where nothing is put.
-use Rattle.std.specs.Prelude.{ℕ, ◌+◌, ◌*◌, ◌%◌, List, get_or, set, ltb}
+use Rattle.std.specs.Prelude.{ℕ, ◌+◌, ◌*◌, ◌%◌, List, get_or, set, ltb, replicate}
 use Rattle.lines.specs.Line.{choose}
+use Rattle.control.specs.declared.Run.{Run}
 
 -- references of a run: one more than its arcs
 abbrev pub reference_room : ℕ
@@ -32,3 +33,10 @@ put_track w i v = choose (ltb i track_words) (set w i (v % 65536)) w
 -- event node number i of a step
 unfoldable pub event_node : ℕ → List ℕ → ℕ
 event_node i g = choose (ltb i 4096) (track_word g (event_nodes_from + i)) 0
+
+-- words of no run
+abbrev pub no_run : Run
+no_run = record {
+  counters = replicate 8 0;
+  words = record { nodes = replicate 65544 0; track = replicate track_words 0 };
+}

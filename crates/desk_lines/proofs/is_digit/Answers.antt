@@ -1,8 +1,6 @@
 -- `desk_lines::is_digit` meets its contract: a character has a place among the 64 that the number tells of, and its bit there tells,
 -- or it has none and is no digit. Assumes nothing.
-use mathlib.Core.Path.{◌∙◌}
-use borrow.Author.Rules.{rules}
-use borrow.Author.Tests.{le-ltb}
+use Rattle.std.proofs.Common.{◌∙◌, rules, le-ltb}
 use Rattle.desk_lines.proofs.Capitals.{bit_tells, no_place}
 use Rattle.desk_lines.proofs.is_digit.Goals as goal
 

@@ -1,5 +1,5 @@
 use Rattle.std.proofs.Common.{sym, ◌∙◌, inl, inr, arith}
-use native.Mathlib.Nat.{sub-zero}
+use Rattle.std.proofs.Math.Nat.{sub-zero}
 use Rattle.drawing.proofs.Laws.{joined_end, joined_turn, parts_kept}
 use Rattle.drawing.proofs.join.Goals as goal
 use Rattle.drawing.proofs.join.Goals.{then-leads, else-leads}

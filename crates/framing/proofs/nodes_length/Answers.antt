@@ -8,7 +8,7 @@ use Rattle.framing.proofs.nodes_length.Goals as goal
 pub loop-k-init : goal.loop-k-init
 loop-k-init c =
     let a = c.args in
-    let n = columns a.kinds.now a.owners.now a.after.now a.roots.now in
+    let n = columns a.table.now.kinds a.table.now.owners a.table.now.after a.table.now.roots in
     omega (arith, nodes_long_all n a.labels.now a.count)
 
 pub overflow_mul-length : goal.overflow_mul-length
@@ -20,7 +20,7 @@ overflow_add-length c = omega (arith, answer_short (columns _ _ _ _) _ _ c.place
 pub overflow_add-length-in-loop-k : goal.overflow_add-length-in-loop-k
 overflow_add-length-in-loop-k c =
     let a = c.args in
-    let n = columns a.kinds.now a.owners.now a.after.now a.roots.now in
+    let n = columns a.table.now.kinds a.table.now.owners a.table.now.after a.table.now.roots in
     let short = answer_short n _ _ c.place-placed.ensures.value in
     omega (arith, short, nodes_short n a.labels.now 0 a.count)
 
@@ -35,6 +35,6 @@ loop-k-preserved c =
 pub returns : goal.returns
 returns c =
     let a = c.args in
-    let n = columns a.kinds.now a.owners.now a.after.now a.roots.now in
+    let n = columns a.table.now.kinds a.table.now.owners a.table.now.after a.table.now.roots in
     let none_left = nodes_long_none n a.labels.now c.loop-k.k a.count c.loop-k-test.false in
     record { value = omega (arith, none_left); upper_bound = omega (arith, none_left, nodes_short n a.labels.now 0 a.count) }

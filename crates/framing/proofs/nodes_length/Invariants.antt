@@ -10,5 +10,5 @@ use Rattle.framing.proofs.nodes_length.Given as goal
 
 abbrev pub invariant-loop-k : goal.invariant-loop-k
 invariant-loop-k l = l.length
-    + list.length (text (map node_frame (labels_told (columns l.kinds l.owners l.after l.roots) l.labels l.k (l.count - l.k))))
-    ≡ list.length (text (map node_frame (labels_told (columns l.kinds l.owners l.after l.roots) l.labels 0 l.count)))
+    + list.length (text (map node_frame (labels_told (columns l.table.kinds l.table.owners l.table.after l.table.roots) l.labels l.k (l.count - l.k))))
+    ≡ list.length (text (map node_frame (labels_told (columns l.table.kinds l.table.owners l.table.after l.table.roots) l.labels 0 l.count)))

@@ -11,7 +11,7 @@ loop-k-init c = (refl, nodes_owed (columns _ _ _ _) _ _)
 pub put_node-at-requires : goal.put_node-at-requires
 put_node-at-requires c =
     let a = c.args in
-    let n = columns a.kinds.now a.owners.now a.after.now a.roots.now in
+    let n = columns a.table.now.kinds a.table.now.owners a.table.now.after a.table.now.roots in
     let l = c.loop-k in (
       path_kept n c.literal_of.result l.path _ l.invariant.0 c.place-placed.ensures.path_after,
       answer_short n _ _ c.place-placed.ensures.value,
@@ -31,6 +31,6 @@ loop-k-preserved c =
 pub returns : goal.returns
 returns c =
     let a = c.args in
-    let n = columns a.kinds.now a.owners.now a.after.now a.roots.now in
+    let n = columns a.table.now.kinds a.table.now.owners a.table.now.after a.table.now.roots in
     let lines = nodes_put n _ _ _ c.loop-k-test.false c.loop-k.invariant.1 in
     record { puts = lines; upper_bound = omega (arith, lines.ends, nodes_short n a.labels.now 0 a.count) }

@@ -10,5 +10,5 @@ use Rattle.framing.proofs.put_nodes.Given as goal
 
 abbrev pub invariant-loop-k : goal.invariant-loop-k
 invariant-loop-k l = (length l.path ≡ 64)
-    × Owed (text (map node_frame (labels_told (columns l.kinds l.owners l.after l.roots) l.labels 0 l.count))) l.from l.initial.out
-    (text (map node_frame (labels_told (columns l.kinds l.owners l.after l.roots) l.labels l.k (l.count - l.k)))) l.at l.out
+    × Owed (text (map node_frame (labels_told (columns l.table.kinds l.table.owners l.table.after l.table.roots) l.labels 0 l.count))) l.from l.initial.out
+    (text (map node_frame (labels_told (columns l.table.kinds l.table.owners l.table.after l.table.roots) l.labels l.k (l.count - l.k)))) l.at l.out

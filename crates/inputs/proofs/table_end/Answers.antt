@@ -1,5 +1,4 @@
-use mathlib.Core.Path.{sym, ◌∙◌}
-use native.Mathlib.Omega.{arith}
+use Rattle.std.proofs.Common.{sym, ◌∙◌, arith}
 use Rattle.inputs.proofs.Cutting.{next_within, table_here, table_behind, table_over}
 use Rattle.inputs.proofs.table_end.Goals as goal
 

@@ -1,9 +1,7 @@
 -- `inputs::table_end` meets its contract. The loop's invariant: the table's text is what was passed and the
 -- table's text of the rest; a line that does not start `1f` leaves that so. The measure is what is left of the
 -- text. Assumes nothing.
-use Prim.Native.Nat.{◌≤◌, ◌-◌, ◌+◌}
-use mathlib.Core.Path.{◌≡◌}
-use lib.ListN.{length, drop}
+use Rattle.std.proofs.Common.{◌≤◌, ◌-◌, ◌+◌, ◌≡◌, length, drop}
 use Rattle.lines.specs.Line.{lines}
 use Rattle.inputs.specs.Cut.{table_length}
 use Rattle.inputs.proofs.table_end.Given as goal

@@ -1,6 +1,6 @@
 -- `leaves::call_start` meets its contract: reference 0 is labelled, and the root stands at a fresh
 -- reference. Assumes nothing.
-use mathlib.Core.Path.{refl}
+use Rattle.std.proofs.Common.{refl}
 use Rattle.leaves.proofs.Laws.{called_made}
 use Rattle.leaves.proofs.call_start.Goals as goal
 

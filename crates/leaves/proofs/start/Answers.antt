@@ -1,6 +1,6 @@
 -- `leaves::start` meets its contract: the sequence is labelled, and its right stands at a fresh
 -- reference. Assumes nothing.
-use mathlib.Core.Path.{refl}
+use Rattle.std.proofs.Common.{refl}
 use Rattle.leaves.proofs.Laws.{start_made}
 use Rattle.leaves.proofs.start.Goals as goal
 

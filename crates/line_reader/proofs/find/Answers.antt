@@ -1,8 +1,6 @@
 -- `line_reader::find` meets its contract: each arm knows how the lines are spelled, and what its finder answers is what
 -- `answer_by` has for that spelling. Assumes nothing.
-use mathlib.Core.Path.{◌≡◌, sym, ap, ◌∙◌}
-use Prim.Native.Nat.{ℕ}
-use mathlib.Core.List.{List}
+use Rattle.std.proofs.Common.{◌≡◌, sym, ap, ◌∙◌, ℕ, List}
 use Rattle.lines.specs.Line.{Raw}
 use Rattle.lines.specs.declared.Line.{Line}
 use Rattle.line_reader.specs.Spelling.{answer_by}

@@ -7,8 +7,8 @@ use Rattle.links.proofs.link.Given as goal
 
 abbrev pub invariant-loop-i : goal.invariant-loop-i
 invariant-loop-i l = record {
-  fits_are : fit_from l.marks l.kinds l.after l.track l.i-end (replicate side_words 0) 0
-      ≡ (l.fits && fit_from l.marks l.kinds l.after l.track l.i-end l.sides l.i);
-  linked_are : linked_from l.marks l.kinds l.after l.track l.i-end (replicate side_words 0) 0
-      ≡ linked_from l.marks l.kinds l.after l.track l.i-end l.sides l.i;
+  fits_are : fit_from l.marks l.table.kinds l.table.after l.track l.i-end (replicate side_words 0) 0
+      ≡ (l.fits && fit_from l.marks l.table.kinds l.table.after l.track l.i-end l.sides l.i);
+  linked_are : linked_from l.marks l.table.kinds l.table.after l.track l.i-end (replicate side_words 0) 0
+      ≡ linked_from l.marks l.table.kinds l.table.after l.track l.i-end l.sides l.i;
 }

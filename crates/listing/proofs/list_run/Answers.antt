@@ -1,6 +1,6 @@
 -- `listing::list_run` meets its contract: each part of the run's listing is put behind the one before, and the
 -- steps' lines end low enough for a cursor behind them. Assumes nothing.
-use native.Mathlib.Omega.{arith}
+use Rattle.std.proofs.Common.{arith}
 use Rattle.listing.proofs.Whole.{status_ends, stop_ends, run_put}
 use Rattle.listing.proofs.list_run.Goals as goal
 
@@ -18,7 +18,7 @@ put_track-requires c =
 
 pub returns : goal.returns
 returns c =
-    run_put _ _ _ _ _ _ _ (c.start.ensures.nodes_after, (c.start.ensures.track_after, (c.start.ensures.counters_after, c.start.ensures.begins))) c.put_steps-stop.ensures c.from.ensures
+    run_put _ _ _ _ _ _ _ (c.start.ensures.nodes_after, (c.start.ensures.track_after, (c.start.ensures.counters_after, c.start.ensures.begins))) c.put_steps-stop.ensures c.from-reference.ensures
     c.status_at-status.ensures.value
     c.put_status-behind_status.ensures
     c.put_stop-behind_stop.ensures

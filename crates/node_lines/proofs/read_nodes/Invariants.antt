@@ -4,4 +4,4 @@ use Rattle.node_lines.proofs.Laws.{NodesSofar}
 use Rattle.node_lines.proofs.read_nodes.Given as goal
 
 abbrev pub invariant-loop-k : goal.invariant-loop-k
-invariant-loop-k l = NodesSofar l.text l.definitions l.count l.kinds l.after l.roots l.from l.initial.labels l.labels l.k l.at
+invariant-loop-k l = NodesSofar l.text l.definitions l.count l.table.kinds l.table.after l.table.roots l.from l.initial.labels l.labels l.k l.at

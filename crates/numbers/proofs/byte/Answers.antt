@@ -1,6 +1,6 @@
 -- `numbers::byte` meets its contract: where the characters have byte number k, both of its characters can be
 -- read and `byte_of` makes the byte of them; where they do not, both sides are 0. Assumes nothing.
-use mathlib.Core.Path.{◌∙◌}
+use Rattle.std.proofs.Common.{◌∙◌}
 use Rattle.numbers.proofs.Laws.{byte_some, byte_none}
 use Rattle.numbers.proofs.byte.Goals as goal
 

@@ -1,6 +1,5 @@
 -- `numbers::byte_of` meets its contract: its two calls give the values that the definition has. Assumes nothing.
-use Prim.Native.Nat.{ℕ, ◌+◌, ◌*◌, ◌%◌}
-use mathlib.Core.Path.{ap₂}
+use Rattle.std.proofs.Common.{ℕ, ◌+◌, ◌*◌, ◌%◌, ap₂}
 use Rattle.numbers.proofs.byte_of.Goals as goal
 
 pub returns : goal.returns

@@ -1,5 +1,5 @@
 -- `numbers::number_at` meets its contract: two bytes make their number. Assumes nothing.
-use native.Mathlib.Omega.{arith}
+use Rattle.std.proofs.Common.{arith}
 use Rattle.lines.specs.Line.{number_from}
 use Rattle.numbers.proofs.number_at.Goals as goal
 

@@ -1,7 +1,7 @@
 -- The plan of a table: four words for each term. Its kind; its operand, a prefix's event or the root that a
 -- call leads to; its second subterm; and one more than the sequence around it: the nearest one that it stands
 -- in the left of, with no choice or parallel between, 0 where there is none.
-use Rattle.std.specs.Prelude.{ℕ, suc, ◌+◌, ◌*◌, ◌<◌, ◌≡◌, List, [], get_or, ltb}
+use Rattle.std.specs.Prelude.{ℕ, suc, ◌+◌, ◌*◌, ◌<◌, ◌≡◌, List, [], get_or, ltb, replicate}
 use Rattle.std.proofs.Math.Option.{some}
 use Rattle.std.proofs.Math.ListN.{get_elem?}
 use Rattle.lines.specs.Line.{choose}
@@ -11,6 +11,10 @@ use Rattle.terms.specs.Term.{Leaf, call, SKIP, STOP, Operator, internal, externa
 use Rattle.terms.specs.Term.{leaf, prefix, binary, leaf_kind, operator_kind, operator_payload, size}
 use Rattle.places.specs.Place.{Place}
 use Rattle.rules.specs.Process.{below}
+
+-- the plan of no term
+abbrev pub no_plan : List ℕ
+no_plan = replicate 4096 0
 
 -- a word of a term, 0 where there is no such term
 unfoldable pub word : ℕ → List ℕ → ℕ → ℕ

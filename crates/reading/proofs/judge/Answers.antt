@@ -10,20 +10,20 @@ pub returns-in_default : goal.returns-in_default
 unfolding read_told
 returns-in_default c =
     let judged = lines_refused _ _ _ _ _ _ _ c.read_lines-read.ensures (ap read_told c.in_default.is) in
-    record { held = judged; sides_after = refl; pending_after = refl; numbers_after = refl; walked_after = refl }
+    record { held = judged; work_after = refl }
 
 pub returns-then-not-fits : goal.returns-then-not-fits
 unfolding number read_told
 returns-then-not-fits c =
     let lines = c.read_lines-read.ensures in
-    let judged = rules_decide _ _ _ _ _ _ _ lines (ap read_told c.in-Ok.is) c.has_shape-fits.ensures.value
-    (ap not c.if-not-fits.true) in
-    record { held = rw (c.at.ensures.0, c.at.ensures.1) judged; sides_after = c.has_shape-fits.ensures.sides_after; pending_after = c.has_shape-fits.ensures.pending_after; numbers_after = c.has_shape-fits.ensures.numbers_after; walked_after = c.has_shape-fits.ensures.walked_after }
+    let shape = c.has_shape-fits.ensures in
+    let judged = rules_decide _ _ _ _ _ _ _ lines (ap read_told c.in-Ok.is) shape.value (ap not c.if-not-fits.true) in
+    record { held = rw (c.at.ensures.0, c.at.ensures.1, shape.work_after) judged; work_after = rw shape.work_after refl }
 
 pub returns : goal.returns
 unfolding read_told
 returns c =
     let lines = c.read_lines-read.ensures in
-    let judged = rules_decide _ _ _ _ _ _ _ lines (ap read_told c.in-Ok.is) c.has_shape-fits.ensures.value
-    (ap not c.if-not-fits.false) in
-    record { held = judged; sides_after = c.has_shape-fits.ensures.sides_after; pending_after = c.has_shape-fits.ensures.pending_after; numbers_after = c.has_shape-fits.ensures.numbers_after; walked_after = c.has_shape-fits.ensures.walked_after }
+    let shape = c.has_shape-fits.ensures in
+    let judged = rules_decide _ _ _ _ _ _ _ lines (ap read_told c.in-Ok.is) shape.value (ap not c.if-not-fits.false) in
+    record { held = rw shape.work_after judged; work_after = rw shape.work_after refl }

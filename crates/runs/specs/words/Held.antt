@@ -12,6 +12,7 @@ use Rattle.rules.specs.Run.{State, start, Reached}
 use Rattle.rules.specs.Run as Run
 use Rattle.plans.specs.words.Plan.{Layout, around}
 use Rattle.plans.specs.words.Plan as Plan
+use Rattle.control.specs.declared.Run as Lent
 use Rattle.control.specs.words.Words.{node, track_words}
 use Rattle.control.specs.words.Control.{label, state, first, second_side, resting}
 use Rattle.looking.specs.code.Looking.{digit_at}
@@ -88,6 +89,10 @@ pub record Words : Type 0 where
 
 abbrev pub lent : List ℕ → List ℕ → List ℕ → Words
 lent w g c = record { nodes = w; track = g; counters = c }
+
+-- those of a run
+abbrev pub words_of : Lent.Run → Words
+words_of r = lent r.words.nodes r.words.track r.counters
 
 -- what a step by the first `count` of the digits owes a run: its answer is document 01's, and the words after it hold the
 -- state behind it

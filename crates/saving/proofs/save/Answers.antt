@@ -6,10 +6,16 @@ use Rattle.saving.proofs.save.Goals as goal
 
 pub returns : goal.returns
 returns c =
-    let lent = c.args in
-    let done = assembled lent.kinds.now lent.owners.now lent.after.now lent.roots.now
-    lent.nodes.now lent.track.now lent.counters.now _ _ _ _ _ _ _ _
-    c.from.ensures c.min.ensures
-    c.take_marks.ensures c.from-2.ensures c.from-3.ensures
-    c.number-counts.ensures.graph_after _ _ _ c.write-saved.ensures in
-    record { text_after = done.0; labels_after = refl; graph_after = refl; marks_after = refl; sides_after = c.number-counts.ensures.sides_after; pending_after = c.number-counts.ensures.pending_after; numbers_after = c.number-counts.ensures.numbers_after; spare_after = c.number-counts.ensures.spare_after; saves = done.1 }
+    let table = c.args.table.now in
+    let run = c.args.run.now in
+    let left = c.number-counts.ensures in
+    let done = assembled table.kinds table.owners table.after table.roots
+    run.words.nodes run.words.track run.counters _ _ _ _ _ _ _ _
+    c.from-fresh.ensures c.min.ensures
+    c.take_marks.ensures c.from.ensures c.from-2.ensures
+    left.graph_after _ _ _ c.write-saved.ensures in
+    record {
+      text_after = done.0;
+      work_after = rw (left.sides_after, left.pending_after, left.numbers_after, left.spare_after) refl;
+      saves = done.1;
+    }

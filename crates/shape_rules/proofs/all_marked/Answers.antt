@@ -1,6 +1,6 @@
 -- `shape_rules::all_marked` meets its contract, node by node. Assumes nothing.
 use Rattle.std.proofs.Common.{not, eqb, refl, rules, tests, ◌∙◌}
-use native.Mathlib.Nat.{sub-zero}
+use Rattle.std.proofs.Math.Nat.{sub-zero}
 use Rattle.std.proofs.lemmas.Iterator.{YieldsList-from_range}
 use Rattle.std.proofs.lemmas.Iterator.Search.{all_from_yields_List}
 use Rattle.links.specs.words.Columns.{at}

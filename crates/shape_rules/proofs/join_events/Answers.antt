@@ -1,6 +1,6 @@
 -- `shape_rules::join_events` meets its contract, meeting by meeting. Assumes nothing.
 use Rattle.std.proofs.Common.{refl, rules, tests, ◌∙◌}
-use native.Mathlib.Nat.{sub-zero}
+use Rattle.std.proofs.Math.Nat.{sub-zero}
 use Rattle.std.proofs.lemmas.Iterator.{YieldsList-from_range}
 use Rattle.std.proofs.lemmas.Iterator.Search.{all_from_yields_List}
 use Rattle.control.specs.words.Words.{meetings_from}

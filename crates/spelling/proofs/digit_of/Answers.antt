@@ -1,6 +1,5 @@
 -- `spelling::digit_of` meets its contract: 0 to 9, and a to f. Assumes nothing.
-use borrow.Author.Tests.{lt-ltb, le-ltb}
-use native.Mathlib.Omega.{arith}
+use Rattle.std.proofs.Common.{lt-ltb, le-ltb, arith}
 use Rattle.lines.specs.Line.{character}
 use Rattle.spelling.proofs.digit_of.Goals as goal
 

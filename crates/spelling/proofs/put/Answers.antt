@@ -1,6 +1,6 @@
 -- `spelling::put` meets its contract: past the end of a slice nothing is set. Assumes nothing.
-use mathlib.Core.Path.{sym}
-use lib.Seq.{set_out}
+use Rattle.std.proofs.Common.{sym}
+use Rattle.std.proofs.Math.Seq.{set_out}
 use Rattle.spelling.proofs.put.Goals as goal
 
 pub returns-else-at-out : goal.returns-else-at-out

@@ -1,5 +1,5 @@
 -- `spelling::put_number` meets its contract: the high byte, and the low one behind it. Assumes nothing.
-use native.Mathlib.Omega.{arith}
+use Rattle.std.proofs.Common.{arith}
 use Rattle.lines.specs.Line.{hex}
 use Rattle.spelling.proofs.Spelt.{number_spelt}
 use Rattle.spelling.proofs.put_number.Goals as goal

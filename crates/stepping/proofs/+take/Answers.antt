@@ -2,7 +2,7 @@ use Rattle.control.proofs.Sums.{one_more}
 use Rattle.looking.proofs.LookLaws.{side_few}
 use Rattle.stepping.proofs.Laws.{take_spent, take_sequence, take_split, take_whole, take_the_end}
 use Rattle.stepping.proofs.Laws.{take_one, take_both}
-use native.Mathlib.Omega.{arith}
+use Rattle.std.proofs.Common.{arith}
 use Rattle.stepping.proofs.+take.Goals as goal
 
 pub returns-then-left-eq0 : goal.returns-then-left-eq0

@@ -5,6 +5,7 @@ use Rattle.std.proofs.Common.{Err, ◌≡◌, ◌∙◌, sym, ap, refl, rules}
 use Rattle.std.proofs.lemmas.Result.{err_from_is_err_and}
 use Rattle.lines.specs.Refusal.{number}
 use Rattle.refusals.specs.code.Said.{first_told}
+use Rattle.columns.specs.words.Columns.{Columns}
 use Rattle.tables.specs.Checked.{checked_told}
 use Rattle.tables.specs.words.Columns.{answer}
 use Rattle.tables.proofs.Told.{changed, table_told, refused_told}
@@ -38,24 +39,26 @@ unfolding checked_told
 returns-in_err-counts c =
     let opens = table_told _ _ _ c.map_err.ensures.cases c.in_ok-opening.was c.first_line.ensures in
     let all = judged_within _ c.if-text-gt-TABLE_TEXT_ROOM.false ∙ (table_opens _ _ _ _ opens).0 in
-    let told = sym c.body.ensures.0 ∙ ap checked_told c.in_err-counts.was in
+    let told = sym c.body.ensures.fills.0 ∙ ap checked_told c.in_err-counts.was in
     let is = err_from_is_err_and c.from_residual-in_err-counts.result c.from_residual-in_err-counts.ensures.1 in
     rw (is.1, is.2) (refuses _ _ _ _ _ refl (all ∙ answer_refuses _ _ _ told))
 
 pub walk-requires : goal.walk-requires
 unfolding checked_told
 walk-requires c =
-    let judged = c.body.ensures in
+    let judged = c.body.ensures.fills in
     let table = answer_accepts _ _ (sym judged.0 ∙ ap checked_told c.in_ok-counts.was) in
-    (rw table.2 (judged.1 table.0 table.1).terms_fit, refl)
+    let zeros = c.body.ensures.after_kept ∙ ap (λ (x : Columns). x.after) c.new-own.ensures in
+    (rw table.2 (judged.1 table.0 table.1).terms_fit, rw zeros refl)
 
 pub returns : goal.returns
 unfolding checked_told
 returns c =
     let opens = table_told _ _ _ c.map_err.ensures.cases c.in_ok-opening.was c.first_line.ensures in
     let all = judged_within _ c.if-text-gt-TABLE_TEXT_ROOM.false ∙ (table_opens _ _ _ _ opens).0 in
-    let judged = c.body.ensures in
+    let judged = c.body.ensures.fills in
     let told = sym (ap checked_told c.in_ok-counts.was) ∙ judged.0 in
     let table = answer_accepts _ _ (sym told) in
     let filled = judged.1 table.0 table.1 in
-    accepts _ table.0 _ _ _ _ _ _ _ (all ∙ table.1) (told ∙ ap answer (sym all)) filled _ table.2 c.walk.ensures
+    accepts _ table.0 _ _ _ _ _ _ _ _ c.new-own.ensures (all ∙ table.1) (told ∙ ap answer (sym all)) filled _ table.2 _
+    c.body.ensures.after_kept c.walk.ensures

@@ -4,11 +4,11 @@
 use Rattle.std.proofs.Common.{ap, ◌∙◌}
 use Rattle.reading.specs.Answers.{read_told}
 use Rattle.answers.proofs.Judged.{track_judged, track_line_of}
-use Rattle.track_parts.proofs.Laws.{read_untouched, read_refused, read_accepted, reading_untouched, reading_cleared, all_reading_cleared}
+use Rattle.track_parts.proofs.Laws.{read_untouched, read_refused, read_accepted, reading_untouched, reading_cleared}
 use Rattle.track_parts.proofs.read_parts.Goals as goal
 
 pub returns-then-head-ne-TABLE_STAMP : goal.returns-then-head-ne-TABLE_STAMP
-returns-then-head-ne-TABLE_STAMP c = record { graph_after = read_untouched _ _ _ _ _ _ _ _ _ _ c.if-head-ne-TABLE_STAMP.true; walked_after = reading_untouched _ _ c.if-head-ne-TABLE_STAMP.true }
+returns-then-head-ne-TABLE_STAMP c = record { graph_after = read_untouched _ _ _ _ _ _ _ _ _ _ c.if-head-ne-TABLE_STAMP.true; work_after = reading_untouched _ _ c.if-head-ne-TABLE_STAMP.true }
 
 pub returns-in_default : goal.returns-in_default
 unfolding read_told
@@ -17,9 +17,7 @@ returns-in_default c =
     record {
       graph_after = read_refused _ _ _ _ _ _ _ _ _ _ stamped _ _ _ c.read_track-read.ensures.graph_after _ (c.line_of.ensures ∙ track_line_of _) _
           (c.of_judged.ensures ∙ track_judged _) _ _ (ap read_told c.in_default.is);
-      walked_after = reading_cleared _ _ stamped _ (all_reading_cleared _ _ _ _ _ _
-          c.read_track-read.ensures.marks_after c.read_track-read.ensures.track_after c.read_track-read.ensures.sides_after c.read_track-read.ensures.pending_after c.read_track-read.ensures.numbers_after
-          c.read_track-read.ensures.walked_after);
+      work_after = reading_cleared _ _ stamped _ c.read_track-read.ensures.work_after;
     }
 
 pub returns : goal.returns
@@ -29,7 +27,5 @@ returns c =
     record {
       graph_after = read_accepted _ _ _ _ _ _ _ _ _ _ stamped _ _ _ c.read_track-read.ensures.graph_after _ (c.line_of.ensures ∙ track_line_of _) _
           (ap read_told c.in-Ok.is);
-      walked_after = reading_cleared _ _ stamped _ (all_reading_cleared _ _ _ _ _ _
-          c.read_track-read.ensures.marks_after c.read_track-read.ensures.track_after c.read_track-read.ensures.sides_after c.read_track-read.ensures.pending_after c.read_track-read.ensures.numbers_after
-          c.read_track-read.ensures.walked_after);
+      work_after = reading_cleared _ _ stamped _ c.read_track-read.ensures.work_after;
     }

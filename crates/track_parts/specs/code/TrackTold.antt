@@ -3,9 +3,10 @@
 use Rattle.std.specs.Prelude.{ℕ, List, [], ◌∷◌, replicate, eqb}
 use Rattle.lines.specs.Line.{choose}
 use Rattle.columns.specs.words.Columns.{columns}
-use Rattle.control.specs.words.Words.{reference_room, track_words}
-use Rattle.links.specs.code.Linked.{side_words}
+use Rattle.control.specs.words.Words.{track_words}
+use Rattle.links.specs.words.Cleared.{cleared}
 use Rattle.links.specs.declared.GraphCounts.{GraphCounts}
+use Rattle.links.specs.declared.Work.{Work}
 use Rattle.writing.specs.words.Slice.{Put, written}
 use Rattle.saving.specs.code.Saving.{text_of}
 use Rattle.graphs.specs.Saved.{graph_text}
@@ -76,50 +77,12 @@ module _ (head ks os xs rs found labels graph : List ℕ) where
       (with_text no_track l slice))
       (with_text no_table l slice)
 
--- ---- room to work in, which a save or a read leaves all 0
+-- ---- room to work in, which a save or a read leaves all 0, a read but for the graph's track
 
-pub record SaveWork : Type 0 where
-  pub labels : List ℕ
-  pub graph : List ℕ
-  pub marks : List ℕ
-  pub sides : List ℕ
-  pub pending : List ℕ
-  pub numbers : List ℕ
-  pub spare : List ℕ
+unfoldable pub work_after_saving : List ℕ → ℕ → Work → Work
+work_after_saving head stamp work =
+    unless (unready (head_word head 0) stamp) (λ n. work) (cleared (replicate track_words 0))
 
-abbrev pub save_work : List ℕ → List ℕ → List ℕ → List ℕ → List ℕ → List ℕ → List ℕ → SaveWork
-save_work l g m s p n e =
-    record { labels = l; graph = g; marks = m; sides = s; pending = p; numbers = n; spare = e }
-
-abbrev pub column_cleared : List ℕ
-column_cleared = replicate reference_room 0
-
-abbrev pub track_cleared : List ℕ
-track_cleared = replicate track_words 0
-
-abbrev pub sides_cleared : List ℕ
-sides_cleared = replicate side_words 0
-
-abbrev pub save_cleared : SaveWork
-save_cleared =
-    save_work column_cleared track_cleared column_cleared sides_cleared sides_cleared column_cleared track_cleared
-
-unfoldable pub work_after_saving : List ℕ → ℕ → SaveWork → SaveWork
-work_after_saving head stamp work = unless (unready (head_word head 0) stamp) (λ n. work) save_cleared
-
-pub record ReadWork : Type 0 where
-  pub marks : List ℕ
-  pub track : List ℕ
-  pub sides : List ℕ
-  pub pending : List ℕ
-  pub numbers : List ℕ
-  pub walked : List ℕ
-
-abbrev pub read_work : List ℕ → List ℕ → List ℕ → List ℕ → List ℕ → List ℕ → ReadWork
-read_work m t s p n e = record { marks = m; track = t; sides = s; pending = p; numbers = n; walked = e }
-
-abbrev pub read_cleared : ReadWork
-read_cleared = read_work column_cleared track_cleared sides_cleared sides_cleared column_cleared column_cleared
-
-unfoldable pub work_after_reading : List ℕ → ReadWork → ReadWork
-work_after_reading head work = choose (eqb (head_word head 0) table_stamp) read_cleared work
+unfoldable pub work_after_reading : List ℕ → Work → Work
+work_after_reading head work =
+    choose (eqb (head_word head 0) table_stamp) (cleared work.graph.track) work

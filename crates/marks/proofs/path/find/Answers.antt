@@ -43,8 +43,8 @@ returns-in_default c =
 
 pub loop-i-preserved : goal.loop-i-preserved
 loop-i-preserved c =
-    let ks = c.args.kinds.now in
-    let xs = c.args.after.now in
+    let ks = c.args.table.now.kinds in
+    let xs = c.args.table.now.after in
     let more = c.loop-i-test.true in
     let digit = c.byte-digit.ensures in
     let count = c.subterms-below.ensures ∙ ap subterms c.kind_of.ensures in

@@ -6,4 +6,4 @@ use Rattle.marks.specs.code.Followed as of
 use Rattle.marks.proofs.path.find.Given as goal
 
 abbrev pub invariant-loop-i : goal.invariant-loop-i
-invariant-loop-i l = of.find l.kinds l.after l.root (drop l.from (read_bytes l.chars)) ≡ of.find l.kinds l.after l.term (drop l.i (read_bytes l.chars))
+invariant-loop-i l = of.find l.table.kinds l.table.after l.root (drop l.from (read_bytes l.chars)) ≡ of.find l.table.kinds l.table.after l.term (drop l.i (read_bytes l.chars))

@@ -6,7 +6,7 @@ use Rattle.places.proofs.Ways.{Halfway}
 use Rattle.places.proofs.descent.descend.Given as goal
 
 abbrev pub invariant-loop-here : goal.invariant-loop-here
-invariant-loop-here l = Halfway l.most l.kinds l.after l.from l.to l.initial.path l.path l.way l.here l.depth
+invariant-loop-here l = Halfway l.most l.table.kinds l.table.after l.from l.to l.initial.path l.path l.way l.here l.depth
 
 abbrev pub decreases-loop-here : goal.decreases-loop-here
 decreases-loop-here l = l.most - l.depth

@@ -5,4 +5,4 @@ use Rattle.plans.specs.code.Laid.{turns}
 use Rattle.plans.proofs.laying.lay_out.Given as goal
 
 abbrev pub invariant-loop-t : goal.invariant-loop-t
-invariant-loop-t l = l.plan ≡ turns l.t l.kinds l.payloads l.after l.roots
+invariant-loop-t l = l.plan ≡ turns l.t l.table.kinds l.table.payloads l.table.after l.table.roots

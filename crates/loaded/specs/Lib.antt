@@ -1,2 +1,0 @@
--- A table with its columns in one struct. Below: `words`, what the struct holds.
-pub mod words

@@ -1,2 +1,0 @@
--- Layouts of words: `Held`, the columns that a table holds.
-pub mod Held
