@@ -30,8 +30,8 @@
        peashuttle_list      2,143,632
        peashuttle_play      1,639,616
        peashuttle_step      1,639,536
-       peashuttle_offers      205,296
-       peashuttle_status      205,296
+       peashuttle_offers      186,784
+       peashuttle_status      186,784
        peashuttle_check        12,744
        peashuttle_save            448
        peashuttle_write           352

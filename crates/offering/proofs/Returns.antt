@@ -2,7 +2,7 @@
 -- events are told by their members, so two offers are equal where each event is in both or in neither.
 -- Assumes nothing.
 use Rattle.std.proofs.Common.{ℕ, ◌%◌, ◌≡◌, ap, Bool, true, false, ◌&&◌, ◌||◌, eqb, ltb, eq-eqb, ne_eqb}
-use Rattle.std.proofs.Math.Path.{fun_ext}
+use mathlib.Core.Path.{fun_ext}
 use Rattle.frames.specs.TableFrame.{event_room}
 use Rattle.sets.specs.EventSet.{member}
 use Rattle.sets.specs.Told.{SetOf, shown}

@@ -1,6 +1,9 @@
 // What is offered, as a value: whether τ and ✓ are, which events, and whether τ is by the plain rules; what a term offers
 // by its own kind, what two sides offer together, and ✓ told as τ. No words are read. It relies on sets of events, and on the
 // numbers that a plan has for kinds.
+//
+// Each case returns by itself. Written as one expression of ifs, what a run offers takes up to 1.4 times as long (docs/PERFORMANCE.md,
+// `offers/blocked-256`).
 #![tactic(auto)]
 
 ghost use Rattle.std.specs.Prelude.{◌≡◌};
@@ -25,24 +28,25 @@ pub fn own(kind: usize, operand: usize) -> Offered
     ensures { seen result ≡ code.own kind operand }
 {
     if kind == PREFIX_WORD {
-        Offered {
+        return Offered {
             tau: false,
             plain: false,
             tick: false,
             events: only((operand % 256) as u8),
-        }
-    } else if kind == SKIP_WORD {
-        unseen(false, true)
-    } else if kind == STOP_WORD {
-        Offered {
+        };
+    }
+    if kind == SKIP_WORD {
+        return unseen(false, true);
+    }
+    if kind == STOP_WORD {
+        return Offered {
             tau: true,
             plain: false,
             tick: false,
             events: 0,
-        }
-    } else {
-        unseen(true, false)
+        };
     }
+    unseen(true, false)
 }
 
 // What two sides offer: a choice what either does; a parallel the events that its set lets pass, τ for a side's
@@ -51,19 +55,18 @@ pub fn combined(kind: usize, set: u64, both: bool, l: Offered, r: Offered) -> Of
     ensures { seen result ≡ code.combined kind set both (seen l) (seen r) }
 {
     if kind == PARALLEL_WORD {
-        Offered {
+        return Offered {
             tau: (l.tau | l.tick) | (r.tau | r.tick),
             plain: (l.plain | l.tick) | (r.plain | r.tick),
             tick: both,
             events: shared(set, l.events, r.events),
-        }
-    } else {
-        Offered {
-            tau: l.tau | r.tau,
-            plain: l.plain | r.plain,
-            tick: l.tick | r.tick,
-            events: either(l.events, r.events),
-        }
+        };
+    }
+    Offered {
+        tau: l.tau | r.tau,
+        plain: l.plain | r.plain,
+        tick: l.tick | r.tick,
+        events: either(l.events, r.events),
     }
 }
 
@@ -72,15 +75,14 @@ pub fn settled(nested: bool, o: Offered) -> Offered
     ensures { seen result ≡ code.settled nested (seen o) }
 {
     if nested {
-        Offered {
+        return Offered {
             tau: o.tau | o.tick,
             plain: o.plain | o.tick,
             tick: false,
-            ..o
-        }
-    } else {
-        o
+            events: o.events,
+        };
     }
+    o
 }
 
 // No visible event, and no STOP.

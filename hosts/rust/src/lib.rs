@@ -43,7 +43,7 @@
 //! | [`list`] | 2,143,632 |
 //! | [`Run::play`] | 1,639,616 |
 //! | [`Run::step`] | 1,639,536 |
-//! | [`Run::offers`], [`Run::status`] | 205,296 |
+//! | [`Run::offers`], [`Run::status`] | 186,784 |
 //! | [`Table::check`] | 12,744 |
 //! | [`Run::save`] | 448 |
 //! | [`Track::write`] | 352 |

@@ -7,7 +7,7 @@ returns-then-kind-eq-PARALLEL_WORD c =
     let a = c.args in
     combined_parallel _ a.set a.both a.l a.r _ c.if-kind-eq-PARALLEL_WORD.true c.shared.ensures
 
-pub returns-else-kind-eq-PARALLEL_WORD : goal.returns-else-kind-eq-PARALLEL_WORD
-returns-else-kind-eq-PARALLEL_WORD c =
+pub returns : goal.returns
+returns c =
     let a = c.args in
     combined_choice _ a.set a.both a.l a.r _ c.if-kind-eq-PARALLEL_WORD.false c.either.ensures

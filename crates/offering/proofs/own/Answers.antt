@@ -12,7 +12,7 @@ returns-then-kind-eq-SKIP_WORD c = c.unseen.ensures ∙ own_tick _ _ c.if-kind-e
 pub returns-then-kind-eq-STOP_WORD : goal.returns-then-kind-eq-STOP_WORD
 returns-then-kind-eq-STOP_WORD c = own_stop _ _ c.if-kind-eq-PREFIX_WORD.false c.if-kind-eq-SKIP_WORD.false c.if-kind-eq-STOP_WORD.true
 
-pub returns-else-kind-eq-STOP_WORD : goal.returns-else-kind-eq-STOP_WORD
-returns-else-kind-eq-STOP_WORD c =
-    c.unseen-else-kind-eq-STOP_WORD.ensures
+pub returns : goal.returns
+returns c =
+    c.unseen-2.ensures
     ∙ own_tau _ _ c.if-kind-eq-PREFIX_WORD.false c.if-kind-eq-SKIP_WORD.false c.if-kind-eq-STOP_WORD.false

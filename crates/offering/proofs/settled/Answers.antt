@@ -5,5 +5,5 @@ use Rattle.offering.proofs.settled.Goals as goal
 pub returns-then-nested : goal.returns-then-nested
 returns-then-nested c = settled_nested c.args.o _ c.if-nested.true
 
-pub returns-else-nested : goal.returns-else-nested
-returns-else-nested c = settled_bare c.args.o _ c.if-nested.false
+pub returns : goal.returns
+returns c = settled_bare c.args.o _ c.if-nested.false
