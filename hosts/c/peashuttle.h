@@ -33,7 +33,7 @@
        peashuttle_offers      186,784
        peashuttle_status      186,784
        peashuttle_check        12,744
-       peashuttle_save            448
+       peashuttle_save            480
        peashuttle_write           352
        peashuttle_read            328
        peashuttle_start            24

@@ -1,7 +1,5 @@
 -- What a host is told, as numbers. Each enum that a door answers has here the number of each of its values.
 use Rattle.std.specs.Prelude.{ℕ, ◌+◌, Bool, true, false, Result, Ok, Err}
-use Rattle.lines.specs.declared.RefusedAt.{RefusedAt}
-use Rattle.lines.specs.Refusal.{number}
 use Rattle.rules.specs.declared.Event.{Event}
 use Rattle.rules.specs.declared.Event.TheVariants.{Tau as τ, Tick as ✓, Visible as visible}
 use Rattle.rules.specs.declared.Status.{Status}
@@ -16,6 +14,7 @@ use Rattle.reading.specs.Answers.{Read}
 use Rattle.reading.specs.Answers as Track
 use Rattle.writing.specs.Answers.{Saved}
 use Rattle.writing.specs.Answers as Text
+use Rattle.answers.specs.declared.NumberAt.{NumberAt}
 
 -- what was asked for has been done
 abbrev pub done : ℕ
@@ -70,13 +69,13 @@ unfoldable pub line_of_checked : Checked → ℕ
 line_of_checked (Table.Accepted counts) = 0
 line_of_checked (Table.Refused n line) = line
 
--- a text that was judged: accepted, or its refusal
-unfoldable pub of_judged : {A : Type 0} → Result A RefusedAt → ℕ
+-- a text that was judged: accepted, or its refusal, by whatever number it has
+unfoldable pub of_judged : {A : Type 0} → Result A NumberAt → ℕ
 of_judged (Ok a) = done
-of_judged (Err r) = of_refusal (number r.refusal)
+of_judged (Err r) = of_refusal r.number
 
 -- the line of its refusal, 0 where there is none
-unfoldable pub line_of : {A : Type 0} → Result A RefusedAt → ℕ
+unfoldable pub line_of : {A : Type 0} → Result A NumberAt → ℕ
 line_of (Ok a) = 0
 line_of (Err r) = r.line
 

@@ -5,9 +5,8 @@
 #![tactic(auto)]
 
 ghost use Rattle.std.specs.Prelude.{◌≡◌};
-ghost use Rattle.runs.specs.Answer.{answer_told};
-ghost use Rattle.playing.specs.Played.{played_told};
 ghost use Rattle.writing.specs.Answers.{saved_told};
+ghost use Rattle.answers.specs.Numbered.{numbered, answer_numbered, played_numbered};
 ghost use Rattle.answers.specs.Numbers as told;
 ghost use Rattle.answers.specs.words.Blocks as blocks;
 
@@ -15,6 +14,7 @@ use lines::{Refusal, RefusedAt};
 use offering::Offered;
 use playing::PlayedStep;
 use rules::{Event, Status};
+use runs::Shown;
 use writing::TooShort;
 
 // What was asked for has been done.
@@ -44,6 +44,25 @@ pub const NO_TRACK: u32 = 0x3_0003;
 // and meetings.
 // An array, as C has it.
 pub type Head = [usize; 4];
+
+// A refusal by its number, whatever number that is, and the line of the text that it is of.
+#[derive(Clone, Copy, PartialEq, Eq)]
+pub struct NumberAt {
+    pub number: u8,
+    pub line: usize,
+}
+
+impl NumberAt {
+    // A text's refusal, by document 01's number.
+    pub fn of(refused: RefusedAt) -> NumberAt
+        ensures { result ≡ numbered refused }
+    {
+        NumberAt {
+            number: refused.refusal.number(),
+            line: refused.line,
+        }
+    }
+}
 
 // 0 τ, 1 ✓, 2 + e event e.
 pub fn of_event(event: Event) -> u32
@@ -79,7 +98,7 @@ pub fn of_offers(offered: Offered) -> u32
     }
 }
 
-// A refusal, by document 01's number: whatever number it is given, since the enum would ask more of callers.
+// A refusal, by document 01's number: whatever number it is given, here and below, since the enum would ask more of callers.
 pub fn of_refusal(number: u8) -> u32
     ensures { result ≡ told.of_refusal number }
 {
@@ -87,29 +106,29 @@ pub fn of_refusal(number: u8) -> u32
 }
 
 // A step's event, or its refusal.
-pub fn of_step(answer: Result<Event, Refusal>) -> u32
-    ensures { result ≡ told.of_step (answer_told answer) }
+pub fn of_step(answer: Result<Shown, u8>) -> u32
+    ensures { result ≡ told.of_step (answer_numbered answer) }
 {
     match answer {
-        Ok(event) => of_event(event),
-        Err(refusal) => of_refusal(refusal.number()),
+        Ok(shown) => of_event(shown.event),
+        Err(number) => of_refusal(number),
     }
 }
 
 // A script's line: its step's event, its refusal, or that there is none.
-pub fn of_played(played: Result<Option<PlayedStep>, Refusal>) -> u32
-    ensures { result ≡ told.of_played (played_told played) }
+pub fn of_played(played: Result<Option<PlayedStep>, u8>) -> u32
+    ensures { result ≡ told.of_played (played_numbered played) }
 {
     match played {
         Ok(Some(step)) => of_event(step.event),
         Ok(None) => END,
-        Err(refusal) => of_refusal(refusal.number()),
+        Err(number) => of_refusal(number),
     }
 }
 
 // Where a script goes on: behind a line that was stepped, and else where it stood.
-pub fn cursor_behind(played: Result<Option<PlayedStep>, Refusal>, at: usize) -> usize
-    ensures { result ≡ told.cursor_behind at (played_told played) }
+pub fn cursor_behind(played: Result<Option<PlayedStep>, u8>, at: usize) -> usize
+    ensures { result ≡ told.cursor_behind at (played_numbered played) }
 {
     match played {
         Ok(Some(step)) => step.next,
@@ -119,17 +138,17 @@ pub fn cursor_behind(played: Result<Option<PlayedStep>, Refusal>, at: usize) -> 
 }
 
 // Whether a text was accepted, or its refusal.
-pub fn of_judged<T: Copy>(judged: Result<T, RefusedAt>) -> u32
+pub fn of_judged<T: Copy>(judged: Result<T, NumberAt>) -> u32
     ensures { result ≡ told.of_judged judged }
 {
     match judged {
         Ok(_) => DONE,
-        Err(refused) => of_refusal(refused.refusal.number()),
+        Err(refused) => of_refusal(refused.number),
     }
 }
 
 // The line of a text's refusal, 0 where there is none.
-pub fn line_of<T: Copy>(judged: Result<T, RefusedAt>) -> usize
+pub fn line_of<T: Copy>(judged: Result<T, NumberAt>) -> usize
     ensures { result ≡ told.line_of judged }
 {
     match judged {

@@ -27,7 +27,8 @@ use Rattle.rules.proofs.Answered.{accepted_exactly, seven_exactly, room_exactly}
 use Rattle.rules.proofs.Stripped.{tracked_plainly, plainly_tracked}
 use Rattle.plans.specs.words.Layout.{layout}
 use Rattle.runs.specs.words.Held.{address_from, addressed, told, behind, Words, Begins}
-use Rattle.runs.specs.Answer.{Answer, Refused, Shown}
+use Rattle.runs.specs.Answer.{Answer, Refused}
+use Rattle.runs.specs.declared.Shown.{Shown}
 use Rattle.runs.proofs.Spelled.{spelled_array}
 use Rattle.weighing.proofs.TermTold.{rhs_cells}
 use Rattle.demands.specs.words.Words.{Planned, HoldsRun, Steps, shows}

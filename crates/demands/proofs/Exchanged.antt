@@ -16,7 +16,8 @@ use Rattle.plans.specs.words.Layout.{layout}
 use Rattle.runs.specs.words.Held.{Table, addressed, told, behind, Words}
 use Rattle.rules.specs.Addressed.{answered}
 use Rattle.runs.proofs.Tabled.{checked_table}
-use Rattle.runs.specs.Answer.{Answer, Accepted, Refused, Shown}
+use Rattle.runs.specs.Answer.{Answer, Accepted, Refused}
+use Rattle.runs.specs.declared.Shown.{Shown}
 use Rattle.exchange.specs.Opposite.{Opposite}
 use Rattle.exchange.specs.Orders.{BothOrders}
 use Rattle.exchange.proofs.Exchange.{exchange}

@@ -19,7 +19,8 @@ use Rattle.plans.specs.words.Layout.{layout}
 use Rattle.runs.specs.words.Held.{Table, addressed, told, behind, Words, Begins}
 use Rattle.rules.specs.Addressed.{answered}
 use Rattle.rules.specs.Derivation.{first_step}
-use Rattle.runs.specs.Answer.{Answer, Accepted, Refused, Shown}
+use Rattle.runs.specs.Answer.{Answer, Accepted, Refused}
+use Rattle.runs.specs.declared.Shown.{Shown}
 use Rattle.runs.proofs.Once.{held_once}
 use Rattle.playing.specs.words.Account.{first_behind}
 use Rattle.playing.specs.Played.{Played}

@@ -17,7 +17,7 @@ use finding::mark_of;
 use frames::PATH_ROOM;
 use graphs::NODE_FRAME;
 use line_reader::{Spelling, characters, next_line};
-use lines::{Refusal, RefusedAt, Span, wanted};
+use lines::{Line, Refusal, RefusedAt, wanted};
 use links::Column;
 use numbers::{byte, byte_at};
 
@@ -47,7 +47,9 @@ pub fn read_nodes(
     for k in 0..count {
         let line = k + FIRST_NODE;
         let found = next_line(text, at, Spelling::Strict);
-        let Span { end, next } = wanted(found).map_err(|refusal| refusal.at(line))?;
+        let Line::Found { end, next } = found else {
+            return Err(wanted(found).unwrap_err().at(line));
+        };
         let chars = characters(text, at, end);
         node_refusal(chars, definitions).map_err(|refusal| refusal.at(line))?;
         labels[k] = mark_of(k, chars, table);

@@ -14,46 +14,64 @@ ghost use Rattle.links.specs.code.Linked.{side_words};
 
 use columns::Table;
 use control::{MEETINGS_FROM, REFERENCES, TRACK_WORDS, Track};
-use links::{GraphCounts, SIDE_WORDS, Work, link};
+use links::{Column, Graph, GraphCounts, SIDE_WORDS, SideWords, link};
 use pairing::renumber;
 use rules::{ARC_ROOM, MEETING_ROOM};
 use sorting::sort;
 use walks::walk;
 
-// Numbers the graph of a track with so many arcs and meetings, whose references have the marks that stand in the work's `marks`,
-// which stay: it goes to the work's `graph`. The other four are scratch, and all 0 afterwards.
+// Numbers the graph of a track with so many arcs and meetings, whose references have these marks: it goes to `graph`. The other
+// four are scratch, and all 0 afterwards. Columns are lent one by one, so that no caller has to own what is only read.
 pub fn number(
     arcs: usize,
     meetings: usize,
+    marks: &Column,
     track: &Track,
     table: &Table,
-    work: &mut Work,
+    graph: &mut Graph,
+    sides: &mut SideWords,
+    pending: &mut SideWords,
+    numbers: &mut Column,
+    spare: &mut Track,
 ) -> GraphCounts
-    ensures graph_after { of.with_counts result work.new.graph.labels work.new.graph.track
-        ≡ of.graph_numbered work.old.marks table.now.kinds table.now.after track.now
+    ensures graph_after { of.with_counts result graph.new.labels graph.new.track
+        ≡ of.graph_numbered marks.now table.now.kinds table.now.after track.now
         arcs meetings }
-    ensures marks_after { work.new.marks ≡ work.old.marks }
-    ensures sides_after { work.new.sides ≡ replicate side_words 0 }
-    ensures pending_after { work.new.pending ≡ replicate side_words 0 }
-    ensures numbers_after { work.new.numbers ≡ replicate reference_room 0 }
-    ensures spare_after { work.new.spare ≡ replicate track_words 0 }
+    ensures sides_after { sides.new ≡ replicate side_words 0 }
+    ensures pending_after { pending.new ≡ replicate side_words 0 }
+    ensures numbers_after { numbers.new ≡ replicate reference_room 0 }
+    ensures spare_after { spare.new ≡ replicate track_words 0 }
 {
-    link(arcs, &work.marks, track, table, &mut work.sides);
-    let nodes = walk(
-        &work.marks,
-        &work.sides,
-        &mut work.numbers,
-        &mut work.graph.labels,
-        &mut work.pending,
+    link(arcs, marks, track, table, sides);
+    let nodes = walk(marks, sides, numbers, &mut graph.labels, pending);
+    graph.track = [0u16; TRACK_WORDS];
+    *spare = [0u16; TRACK_WORDS];
+    let arcs = number_pairs(
+        nodes,
+        0,
+        arcs.min(ARC_ROOM),
+        false,
+        track,
+        numbers,
+        &mut graph.track,
+        spare,
+        pending,
     );
-    work.graph.track = [0u16; TRACK_WORDS];
-    work.spare = [0u16; TRACK_WORDS];
-    let arcs = number_pairs(nodes, 0, arcs.min(ARC_ROOM), false, track, work);
     let count = meetings.min(MEETING_ROOM);
-    let meetings = number_pairs(nodes, MEETINGS_FROM, count, true, track, work);
-    work.sides = [0u16; SIDE_WORDS];
-    work.numbers = [0u16; REFERENCES];
-    work.spare = [0u16; TRACK_WORDS];
+    let meetings = number_pairs(
+        nodes,
+        MEETINGS_FROM,
+        count,
+        true,
+        track,
+        numbers,
+        &mut graph.track,
+        spare,
+        pending,
+    );
+    *sides = [0u16; SIDE_WORDS];
+    *numbers = [0u16; REFERENCES];
+    *spare = [0u16; TRACK_WORDS];
     GraphCounts {
         nodes,
         arcs,
@@ -61,42 +79,28 @@ pub fn number(
     }
 }
 
-// Puts the numbers of so many pairs of a track, from a word on, to the same words of the work's graph, sorted; the lower one
-// first where either order will do. Tells how many there are. `spare` and `pending` are scratch, and `pending` is all 0 afterwards.
+// Puts the numbers of so many pairs of a track, from a word on, to the same words of another, sorted; the lower one first
+// where either order will do. Tells how many there are. The last two are scratch, and `starts` is all 0 afterwards.
 fn number_pairs(
     nodes: usize,
     base: usize,
     count: usize,
     either: bool,
     track: &Track,
-    work: &mut Work,
+    numbers: &Column,
+    graph: &mut Track,
+    spare: &mut Track,
+    starts: &mut SideWords,
 ) -> usize
     requires nodes_le_reference_room { (nodes ≤ reference_room) × (count ≤ arc_room) × (base + 2 * count ≤ track_words) }
-    requires graph_len { (length work.old.graph.track ≡ track_words) × (length work.old.spare ≡ track_words) }
-    requires by_index { (n : ℕ) → at work.old.numbers n ≤ nodes }
-    ensures graph_after { with_count result work.new.graph.track ≡ pairs_put work.old.graph.track base
-        (sorted nodes (renumbered either work.old.numbers (pairs base track.now 0 count))) }
-    ensures labels_kept { work.new.graph.labels ≡ work.old.graph.labels }
-    ensures marks_kept { work.new.marks ≡ work.old.marks }
-    ensures numbers_kept { work.new.numbers ≡ work.old.numbers }
-    ensures spare_len { length work.new.spare ≡ track_words }
-    ensures starts_after { work.new.pending ≡ replicate side_words 0 }
+    requires graph_len { (length graph.old ≡ track_words) × (length spare.old ≡ track_words) }
+    requires by_index { (n : ℕ) → at numbers.now n ≤ nodes }
+    ensures graph_after { with_count result graph.new ≡ pairs_put graph.old base (sorted nodes
+        (renumbered either numbers.now (pairs base track.now 0 count))) }
+    ensures spare_len { length spare.new ≡ track_words }
+    ensures starts_after { starts.new ≡ replicate side_words 0 }
 {
-    let kept = renumber(
-        base,
-        count,
-        either,
-        track,
-        &work.numbers,
-        &mut work.graph.track,
-    );
-    sort(
-        nodes,
-        base,
-        kept,
-        &mut work.graph.track,
-        &mut work.spare,
-        &mut work.pending,
-    );
+    let kept = renumber(base, count, either, track, numbers, graph);
+    sort(nodes, base, kept, graph, spare, starts);
     kept
 }

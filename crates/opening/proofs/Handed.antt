@@ -1,5 +1,4 @@
--- What a `?` hands on: the refusal of a line that is wanted, as it is or at a line. And an answer of code tells one outcome. Assumes
--- nothing.
+-- What a `?` hands on: a refusal, told at a line. And an answer of code tells one outcome. Assumes nothing.
 use Rattle.std.specs.Prelude.{ℕ, ◌≡◌, Result, Ok, Err, IsErrAnd, MatchResult}
 use Rattle.std.proofs.Common.{sym, ap, arith}
 use Rattle.lines.specs.Refusal.{number, told}
@@ -7,7 +6,7 @@ use Rattle.lines.specs.declared.Refusal.{Refusal}
 use Rattle.lines.specs.declared.RefusedAt.{RefusedAt}
 use Rattle.lines.proofs.Refusals.{number_once, refused_once}
 use Rattle.opening.specs.declared.TrackOpening.{TrackOpening}
-use Rattle.opening.specs.Answers.{Fails, Stops, opened_told, lines_told}
+use Rattle.opening.specs.Answers.{Stops, opened_told, lines_told}
 
 -- a result whose refusal is told at line k: what it was, by what is told
 module _ {A : Type 0} (x : Result A Refusal) where
@@ -40,12 +39,6 @@ unfolding told
 accepted_met e = rw e
 
 -- what is handed on tells the refusal
-pub fails_told : (r : Result TrackOpening Refusal) (e : Refusal) → IsErrAnd r (λ x. x ≡ e)
-    → opened_told r ≡ Fails (number e)
-unfolding opened_told
-fails_told (Ok o) e h = absurd h
-fails_told (Err x) e h = ap (λ s. Fails (number s)) h
-
 pub stops_told : (r : Result ℕ RefusedAt) (e : RefusedAt) → IsErrAnd r (λ x. x ≡ e) → {k : ℕ} → e.line ≡ k
     → lines_told r ≡ Stops (number e.refusal) k
 unfolding lines_told

@@ -1,7 +1,7 @@
 -- The line reading a line at a time. Where a line is due and none is found, the work stops with the answer's number; where one
 -- is found, it stops with the number that the bytes meet, or goes on from where the next line begins. So behind some lines of
 -- one kind that are read one more is read, and the column with it. Assumes nothing.
-use Rattle.std.specs.Prelude.{ℕ, suc, ◌+◌, ◌-◌, ◌≤◌, ◌<◌, Bool, true, false, ◌&&◌, not, List, [], ◌∷◌, ◌++◌, Result, Ok, Err, length, drop, leb, eqb, ◌≡◌, refl}
+use Rattle.std.specs.Prelude.{ℕ, suc, ◌+◌, ◌-◌, ◌≤◌, ◌<◌, Bool, true, false, ◌&&◌, not, List, [], ◌∷◌, ◌++◌, Result, Err, IsErr, length, drop, leb, eqb, ◌≡◌, refl}
 use Rattle.std.proofs.Common.{sym, ap, ◌∙◌, arith, append_assoc, append-nil, length-append, eq-eqb, ne_eqb}
 use Rattle.std.proofs.lemmas.Bool.{not-true, not-false}
 use Rattle.std.proofs.Math.Option.{some}
@@ -22,14 +22,15 @@ use Rattle.opening.specs.code.Ends.{counts, opened, none_read, last_read}
 use Rattle.lines.proofs.Refusals.{number_not_0}
 use Rattle.opening.specs.Answers.{TrackOpened, Track, Fails, Lines, Goes, Stops}
 
--- where a line is wanted: the line that is found
-found_is : (l : Line) {w : Span} → wanted l ≡ Ok w → l ≡ Found w.end w.next
+-- an answer that is no found line: where a line is wanted, that is refused
+abbrev pub NotFound : Line → Type 0
+NotFound l = (e n : ℕ) → l ≡ Found e n → ⊥
+
+pub no_line_refused : (l : Line) → NotFound l → {w : Result Span Refusal} → w ≡ wanted l → IsErr w
 unfolding wanted
-found_is (Found e n) {w} q =
-    let same : ◌≡◌ {A = Span} (record { end = e; next = n }) w = cc in
-    ap (λ (v : Span). Found v.end v.next) same
-found_is NoLine q = let z : ◌≡◌ {A = ℕ} 0 1 = cc in absurd (omega arith)
-found_is End q = let z : ◌≡◌ {A = ℕ} 0 1 = cc in absurd (omega arith)
+no_line_refused (Found e n) other want = absurd (other e n refl)
+no_line_refused NoLine other want = rw want refl
+no_line_refused End other want = rw want refl
 
 -- a line of these characters, with the next line from `next` on
 pub record Held (text : List ℕ) (at next : ℕ) (cs : List ℕ) : Type 0 where
@@ -37,12 +38,11 @@ pub record Held (text : List ℕ) (at next : ℕ) (cs : List ℕ) : Type 0 where
   pub line : IsLine text at end next
   pub stands : (line).held ≡ read_bytes cs
 
-pub held_line : (text : List ℕ) (at : ℕ) {l : Line} {x : Result Span Refusal} {w : Span} {cs : List ℕ}
-    → l ≡ answer at (lines (drop at text)) → x ≡ wanted l → x ≡ Ok w → cs ≡ part text at w.end
-    → Held text at w.next cs
-held_line text at {l} {w = w} {cs} seen want found chars =
-    let i = is_line text at w.end w.next (sym seen ∙ found_is l (sym want ∙ found)) in
-    record { end = w.end; line = i; stands = sym (bytes_read cs i.held (ap bytes chars ∙ i.stands)) }
+pub held_line : (text : List ℕ) (at : ℕ) {l : Line} {e next : ℕ} {cs : List ℕ}
+    → l ≡ answer at (lines (drop at text)) → l ≡ Found e next → cs ≡ part text at e → Held text at next cs
+held_line text at {l} {e} {next} {cs} seen found chars =
+    let i = is_line text at e next (sym seen ∙ found) in
+    record { end = e; line = i; stands = sym (bytes_read cs i.held (ap bytes chars ∙ i.stands)) }
 
 -- a line that is due
 module _ {A : Type 0} (stops : ℕ → A) (meets : List ℕ → ℕ) (leads : List ℕ → ℕ → List Raw → A)

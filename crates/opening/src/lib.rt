@@ -10,7 +10,7 @@ ghost use Rattle.rules.specs.Run.{arc_room, meeting_room, node_room};
 
 use graphs::{TRACK_EDITION, TRACK_END_FRAME, TRACK_FRAME};
 use line_reader::{Spelling, characters, next_line};
-use lines::{Line, Refusal, RefusedAt, Span, wanted};
+use lines::{Line, Refusal, RefusedAt, wanted};
 use numbers::{byte, number_at};
 use rules::{ARC_ROOM, MEETING_ROOM, NODE_ROOM};
 
@@ -27,7 +27,10 @@ pub struct TrackOpening {
 pub fn first_line(text: &[u8]) -> Result<TrackOpening, Refusal>
     ensures { opened_told result ≡ of.opened (lines text.now) }
 {
-    let Span { end, next } = wanted(next_line(text, 0, Spelling::Strict))?;
+    let line = next_line(text, 0, Spelling::Strict);
+    let Line::Found { end, next } = line else {
+        return Err(wanted(line).unwrap_err());
+    };
     let chars = characters(text, 0, end);
     if chars.len() / 2 != 8 {
         return Err(Refusal::WrongFrame);
@@ -63,7 +66,9 @@ pub fn last_lines(text: &[u8], at: usize, line: usize) -> Result<usize, RefusedA
     ensures { lines_told result ≡ of.last_read line at (lines (drop at text.now)) }
 {
     let found = next_line(text, at, Spelling::Strict);
-    let Span { end, next } = wanted(found).map_err(|refusal| refusal.at(line))?;
+    let Line::Found { end, next } = found else {
+        return Err(wanted(found).unwrap_err().at(line));
+    };
     let chars = characters(text, at, end);
     if chars.len() / 2 != 1 {
         return Err(Refusal::WrongFrame.at(line));

@@ -6,7 +6,6 @@ use Rattle.std.proofs.lemmas.Bool.{false≢true}
 use Rattle.lines.specs.declared.Refusal.{Refusal}
 use Rattle.lines.specs.declared.RefusedAt.{RefusedAt}
 use Rattle.lines.proofs.Refusals.{met_once}
-use Rattle.rules.specs.declared.Event.{Event}
 use Rattle.scripts.proofs.Laws.{step_told_once}
 use Rattle.refusals.proofs.Told.{first_told_once, line_told_once}
 use Rattle.columns.specs.words.Columns.{Columns}
@@ -19,6 +18,7 @@ use Rattle.sets.specs.Told.{Emptiness}
 use Rattle.sets.proofs.Told.{told_once}
 use Rattle.offering.proofs.Once.{offers_once}
 use Rattle.runs.specs.Answer.{answer_told}
+use Rattle.runs.specs.declared.Shown.{Shown}
 use Rattle.runs.specs.code.Doors.{Stepped, with_answer}
 use Rattle.runs.proofs.Laws.{answer_told_once}
 use Rattle.playing.specs.declared.PlayedStep.{PlayedStep}
@@ -93,7 +93,7 @@ check_once : (x y : Result TableCounts RefusedAt) {c d : Columns}
     → with_columns (checked_told x) c ≡ with_columns (checked_told y) d → x beside c ≡ y beside d
 check_once x y h = both (checked_told_once x y (ap (λ (o : Outcome). o.answer) h)) (ap (λ (o : Outcome). o.columns) h)
 
-step_once : (x y : Result Event Refusal) {w w' g g' c c' : List ℕ}
+step_once : (x y : Result Shown Refusal) {w w' g g' c c' : List ℕ}
     → with_answer (answer_told x) w g c ≡ with_answer (answer_told y) w' g' c'
     → x beside w beside g beside c ≡ y beside w' beside g' beside c'
 step_once x y h =
@@ -246,12 +246,11 @@ pub walks_walk_settled : Settles walks-walk.Learnt
 walks_walk_settled = by_equation (λ κ lent x s p. both p.0 p.1)
 
 pub numbering_number_settled : Settles numbering-number.Learnt
-    (λ κ x s. let (arcs, (meetings, (track, (table, (work, _))))) = s in
-    with_counts x work.now.graph.labels work.now.graph.track beside work.now.marks beside work.now.sides
-    beside work.now.pending beside work.now.numbers beside work.now.spare)
+    (λ κ x s. let (arcs, (meetings, (marks, (track, (table, (graph, (sides, (pending, (numbers, (spare, _)))))))))) = s in
+    with_counts x graph.now.labels graph.now.track beside sides.now beside pending.now beside numbers.now beside spare.now)
 numbering_number_settled =
     by_equation (λ κ lent x s p. both p.0 (both p.1.0 (both p.1.1.0
-    (both p.1.1.1.0 (both p.1.1.1.1.0 p.1.1.1.1.1)))))
+    (both p.1.1.1.0 p.1.1.1.1))))
 
 pub writing_write_settled : Settles writing-write.Learnt
     (λ κ x s. let (counts, (graph, (table, (text, _)))) = s in

@@ -16,6 +16,7 @@ use Rattle.outcomes.proofs.Settling.{by_equation, both}
 use Rattle.answers.proofs.of_event.Reads as answers-of-event
 use Rattle.answers.proofs.of_status.Reads as answers-of-status
 use Rattle.answers.proofs.of_offers.Reads as answers-of-offers
+use Rattle.answers.proofs.NumberAt.of.Reads as answers-number-at-of
 use Rattle.answers.proofs.of_refusal.Reads as answers-of-refusal
 use Rattle.answers.proofs.of_step.Reads as answers-of-step
 use Rattle.answers.proofs.of_played.Reads as answers-of-played
@@ -54,6 +55,9 @@ answers_of_offers_settled = by_equation (λ κ lent x s p. p)
 
 pub answers_of_refusal_settled : Settles answers-of-refusal.Learnt (λ κ x s. x)
 answers_of_refusal_settled = by_equation (λ κ lent x s p. p)
+
+pub answers_number_at_of_settled : Settles answers-number-at-of.Learnt (λ κ x s. x)
+answers_number_at_of_settled = by_equation (λ κ lent x s p. p)
 
 pub answers_of_step_settled : Settles answers-of-step.Learnt (λ κ x s. x)
 answers_of_step_settled = by_equation (λ κ lent x s p. p)

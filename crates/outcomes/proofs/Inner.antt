@@ -492,8 +492,11 @@ pub shape_rules_join_events_settled : Settles shape-rules-join-events.Learnt (λ
 shape_rules_join_events_settled = by_equation (λ κ lent x s p. p)
 
 pub shapes_has_shape_settled : Settles shapes-has-shape.Learnt
-    (λ κ x s. let (counts, (table, (work, _))) = s in x beside work.now)
-shapes_has_shape_settled = by_equation (λ κ lent x s p. both p.0 p.1)
+    (λ κ x s. let (counts, (labels, (graph, (table, (sides, (pending, (numbers, (walked, _)))))))) = s in
+    x beside sides.now beside pending.now beside numbers.now beside walked.now)
+shapes_has_shape_settled =
+    by_equation (λ κ lent x s p. both p.0 (both p.1.0 (both p.1.1.0
+    (both p.1.1.1.0 p.1.1.1.1))))
 
 -- ---- programs
 

@@ -13,7 +13,7 @@ ghost use Rattle.control.specs.words.Words.{track_words};
 
 use control::Track;
 use line_reader::{Spelling, characters, next_line};
-use lines::{Refusal, RefusedAt, Span, wanted};
+use lines::{Line, Refusal, RefusedAt, wanted};
 use numbers::{byte, number_at};
 
 // Reads the lines of so many pairs, which begin with `code`, of a track of so many nodes; the first is line `first`. They
@@ -38,7 +38,9 @@ pub fn read_pairs(
     for i in 0..count {
         let line = first + i;
         let found = next_line(text, at, Spelling::Strict);
-        let Span { end, next } = wanted(found).map_err(|refusal| refusal.at(line))?;
+        let Line::Found { end, next } = found else {
+            return Err(wanted(found).unwrap_err().at(line));
+        };
         let chars = characters(text, at, end);
         pair_refusal(code, chars, nodes).map_err(|refusal| refusal.at(line))?;
         let word = base + 2 * i;

@@ -5,7 +5,7 @@ ghost use Rattle.places.specs.code.Descent as code;
 ghost use Rattle.places.specs.code.Descent.{descended, reached, digits};
 ghost use Rattle.frames.specs.TableFrame.{path_room, term_room};
 
-use crate::Path;
+use crate::{Path, StepDown};
 use columns::{After, Table, after_of, kind_of};
 use kinds::subterms;
 
@@ -34,13 +34,6 @@ pub fn descend(from: usize, to: usize, most: usize, table: &Table, path: &mut Pa
     }
     *path = way;
     Some(depth)
-}
-
-// A step downward: the subterm, and its digit.
-#[derive(Clone, Copy)]
-struct StepDown {
-    next: usize,
-    digit: u8,
 }
 
 // The subterm of a term that `to` stands in, where the term has so many.

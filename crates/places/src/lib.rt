@@ -35,6 +35,13 @@ pub struct Placed {
     pub length: usize,
 }
 
+// A step downward: the subterm, and its digit.
+#[derive(Clone, Copy)]
+pub struct StepDown {
+    pub next: usize,
+    pub digit: u8,
+}
+
 // The place of a literal by the columns of a table, whose path's digits go to the front of `path`; none, with `path` as it was,
 // where the columns hold no such literal.
 pub fn place(literal: Literal, table: &Table, path: &mut Path) -> Option<Placed>

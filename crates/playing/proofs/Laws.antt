@@ -13,7 +13,8 @@ use Rattle.runs.specs.words.Held.{lent}
 use Rattle.playing.specs.words.Account.{Plays}
 use Rattle.playing.specs.code.Playing.{LinePlayed, with_played, of_answer, step_played}
 use Rattle.playing.specs.code.Playing.{by_line, played}
-use Rattle.runs.specs.Answer.{Answer, Accepted, Refused, Shown}
+use Rattle.runs.specs.Answer.{Answer, Accepted, Refused}
+use Rattle.runs.specs.declared.Shown.{Shown}
 use Rattle.playing.specs.declared.PlayedStep.{PlayedStep}
 use Rattle.playing.specs.Played.{Played, played_told}
 use Rattle.playing.specs.Played as Comes

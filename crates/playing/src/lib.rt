@@ -14,7 +14,7 @@ use control::Run;
 use lines::Refusal;
 use plans::Show;
 use rules::Event;
-use runs::step;
+use runs::{Shown, step};
 use scripts::{Address, Digits, next_step};
 
 // The step that a line of a script comes to: the event that it shows, with the next line from `next` on.
@@ -44,10 +44,14 @@ pub fn play(
         (words_of run.old) (played_told result)
         (words_of run.new) }
 {
-    let asked = next_step(text, at, digits)?;
+    // No `?`: a refusal has an arm of its own, by whose value alone a wrong one differs.
+    let asked = match next_step(text, at, digits) {
+        Ok(asked) => asked,
+        Err(refusal) => return Err(refusal),
+    };
     let Some(Address { count, next }) = asked else {
         return Ok(None);
     };
-    let event = step(count, digits, show, run)?;
+    let Shown { event } = step(count, digits, show, run)?;
     Ok(Some(PlayedStep { event, next }))
 }

@@ -83,7 +83,16 @@ fn judge(
         work.graph.labels = [0u16; REFERENCES];
         return read;
     };
-    let fits = has_shape(counts, table, work);
+    let fits = has_shape(
+        counts,
+        &work.marks,
+        &work.spare,
+        table,
+        &mut work.sides,
+        &mut work.pending,
+        &mut work.numbers,
+        &mut work.graph.labels,
+    );
     if !fits {
         return Err(Refusal::ShapeBroken.at(0));
     }
@@ -103,12 +112,16 @@ fn read_lines(
 {
     *labels = [0u16; REFERENCES];
     *graph = [0u16; TRACK_WORDS];
+    let first = first_line(text);
+    let Ok(opening) = first else {
+        return Err(first.unwrap_err().at(1));
+    };
     let TrackOpening {
         nodes,
         arcs,
         meetings,
         next,
-    } = first_line(text).map_err(|refusal| refusal.at(1))?;
+    } = opening;
     let behind_nodes = read_nodes(text, next, nodes, definitions, table, labels)?;
     let behind_arcs = read_pairs(
         ARC_FRAME,

@@ -1,7 +1,7 @@
 -- What a text says at a cursor. Where a line is wanted and there is none, the refusal's number is what is said; where there is
 -- one, its characters are a part of the text that stands for bytes, and the frame that was read of it is theirs. Assumes nothing.
 use Rattle.std.proofs.Common.{ℕ, ◌+◌, ◌≡◌, refl, sym, ap, ◌∙◌, List, [], ◌∷◌, map, length, drop, Bool}
-use Rattle.std.proofs.Common.{true, false, not, eqb, Ok, Err, arith, ne_eqb}
+use Rattle.std.proofs.Common.{true, false, not, eqb, Result, Err, IsErr, arith, ne_eqb}
 use Rattle.std.proofs.lemmas.Bool.{not-true, not-false}
 use Rattle.std.proofs.Math.Option.{Option, none, some}
 use Rattle.lines.specs.Line.{Raw, lines, bytes, characters, seen, answer_of}
@@ -22,11 +22,21 @@ use Rattle.frames.specs.declared.Frame.{Frame}
 use Rattle.frames.specs.declared.Frame.TheVariants.{Opening, Definition, Term, Closing, Wrong}
 use Rattle.refusals.specs.code.Said.{Goes, Stops, Table, Fails, heard, said, opens, opened_by, opened}
 
--- a frame other than line 1's
+-- an answer other than a found line, and a frame other than line 1's
+abbrev pub NotFound : Line → Type 0
+NotFound l = (e n : ℕ) → l ≡ Found e n → ⊥
+
 abbrev pub NotOpening : Frame → Type 0
 NotOpening f = (ed dd ee : ℕ) → f ≡ Opening ed dd ee → ⊥
 
--- where a line is wanted and there is none: 1 where there is something else, and 2 where there is nothing
+-- where a line is wanted and there is none, that is refused
+pub no_line_refused : (l : Line) → NotFound l → {w : Result Span Refusal} → w ≡ wanted l → IsErr w
+unfolding wanted
+no_line_refused (Found e n) other want = absurd (other e n refl)
+no_line_refused NoLine other want = rw want refl
+no_line_refused End other want = rw want refl
+
+-- and by its number: 1 where there is something else, and 2 where there is nothing
 no_line : {A : Type 0} (told : ℕ → A) (of : List Raw → A) → told 2 ≡ of []
     → ((l : Raw) (ls : List Raw) → desk_frame l ≡ none → told 1 ≡ of (l ∷ ls))
     → (at : ℕ) (ls : List Raw) (r : Refusal) → Err r ≡ wanted (desk_answer at ls) → told (number r) ≡ of ls
@@ -59,16 +69,10 @@ pub record FrameAt (s : List ℕ) (at next : ℕ) (f : Frame) : Type 0 where
   pub past : at + length (characters line) + 1 ≡ next
   pub is : f ≡ frame_of held
 
-found : (l : Line) (p : Span) → Ok p ≡ wanted l → l ≡ Found p.end p.next
-unfolding wanted
-found (Found e n) p q = let same : p ≡ record { end = e; next = n } = cc in rw same
-found NoLine p q = let z : ◌≡◌ {A = ℕ} 0 1 = cc in absurd (omega arith)
-found End p q = let z : ◌≡◌ {A = ℕ} 0 1 = cc in absurd (omega arith)
-
-pub frame_at : (s : List ℕ) (at : ℕ) {l : Line} → l ≡ desk_answer at (lines (drop at s)) → {p : Span} → Ok p ≡ wanted l
-    → {cs : List ℕ} → cs ≡ part s at p.end → {f : Frame} → f ≡ frame_of (read_bytes cs) → FrameAt s at p.next f
-frame_at s at {l} finds {p} is {cs} chars read =
-    let i : DeskLine s at p.end p.next = desk_line s at p.end p.next (sym finds ∙ found l p is) in
+pub frame_at : (s : List ℕ) (at : ℕ) {l : Line} → l ≡ desk_answer at (lines (drop at s)) → {e n : ℕ} → l ≡ Found e n
+    → {cs : List ℕ} → cs ≡ part s at e → {f : Frame} → f ≡ frame_of (read_bytes cs) → FrameAt s at n f
+frame_at s at finds {e} {n} found {cs} chars read =
+    let i : DeskLine s at e n = desk_line s at e n (sym finds ∙ found) in
     record {
       line = i.line;
       held = i.held;

@@ -15,7 +15,7 @@ use frames::{
 };
 use kinds::{CALL, PARALLEL, PREFIX};
 use line_reader::{Spelling, characters, next_line};
-use lines::{Refusal, Span, wanted};
+use lines::{Line, Refusal, wanted};
 
 // What line 1 opens: a table of so many definitions and events, with the next line from `next` on.
 #[derive(Clone, Copy)]
@@ -36,7 +36,10 @@ pub struct FrameLine {
 pub fn first_line(text: &[u8]) -> Result<TableOpening, Refusal>
     ensures { first_told result ≡ opened (lines text.now) }
 {
-    let Span { end, next } = wanted(next_line(text, 0, Spelling::Desk))?;
+    let line = next_line(text, 0, Spelling::Desk);
+    let Line::Found { end, next } = line else {
+        return Err(wanted(line).unwrap_err());
+    };
     let Frame::Opening {
         edition,
         definitions,
@@ -69,7 +72,10 @@ fn opening_outside(edition: u8, definitions: u8, events: u8) -> bool
 pub fn table_line(text: &[u8], at: usize, s: Seen) -> Result<FrameLine, Refusal>
     ensures { line_told result ≡ said (λ f. table.refusal f s) at (lines (drop at text.now)) }
 {
-    let Span { end, next } = wanted(next_line(text, at, Spelling::Desk))?;
+    let line = next_line(text, at, Spelling::Desk);
+    let Line::Found { end, next } = line else {
+        return Err(wanted(line).unwrap_err());
+    };
     let frame = read_frame(characters(text, at, end));
     refusal(frame, s)?;
     Ok(FrameLine { frame, next })

@@ -53,7 +53,7 @@ pub fn step_parts<'s, 'b>(
         return of_refusal(Refusal::NoDerivation.number());
     }
     put_copy(address, count, 0, digits);
-    of_step(step(count, digits, show, run))
+    of_step(step(count, digits, show, run).map_err(Refusal::number))
 }
 
 // Plays the line of a script that begins at the cursor, which goes behind an accepted one; tells the event, the refusal, or
@@ -78,7 +78,7 @@ pub fn play_parts<'s, 'n, 'b>(
         return unready;
     }
     let from = *at;
-    let played = play(script, from, digits, show, run);
+    let played = play(script, from, digits, show, run).map_err(Refusal::number);
     *at = cursor_behind(played, from);
     of_played(played)
 }

@@ -4,7 +4,6 @@ use Rattle.std.proofs.Common.{Some, None, Result, Ok, Err, ok_or, ℕ, zero, suc
 use Rattle.std.proofs.Common.{List, eqb, eq-eqb, ne_eqb}
 use Rattle.lines.specs.declared.Refusal.{Refusal}
 use Rattle.lines.proofs.Refusals.{number_once}
-use Rattle.rules.specs.declared.Event.{Event}
 use Rattle.rules.specs.declared.Event.TheVariants.{Tau}
 use Rattle.weighing.specs.code.Weigh.{at_reference}
 use Rattle.weights.specs.declared.Weight.{Weight}
@@ -18,6 +17,7 @@ use Rattle.counting.specs.code.Counting.{reference, cells, arcs, over_room, tall
 use Rattle.runs.specs.code.Doors.{start_weight, control_levels, step_levels, weight, performed, Stepped, with_answer}
 use Rattle.runs.specs.code.Doors.{accepted, by_room, by_weight, stepped}
 use Rattle.runs.specs.Answer.{Answer, Accepted, Refused, answer_told}
+use Rattle.runs.specs.declared.Shown.{Shown}
 
 -- weighing and taking, by whether the run has started
 module _ (p : List ℕ) (count : ℕ) (ds w g c : List ℕ) (n : ℕ) (n_is : n ≡ reference c) where
@@ -57,13 +57,13 @@ wanted_none None r s e = (refl, cc)
 wanted_none (Some v) r s e = (cc, cc)
 
 -- what an answer tells, where it is no refusal
-event_of : Answer → Result Event Refusal
-event_of (Accepted s) = Ok s.event
-event_of (Refused n) = Ok Tau
+shown_of : Answer → Result Shown Refusal
+shown_of (Accepted s) = Ok s
+shown_of (Refused n) = Ok (record { event = Tau })
 
-pub answer_told_once : (x y : Result Event Refusal) → answer_told x ≡ answer_told y → x ≡ y
-unfolding answer_told event_of
-answer_told_once (Ok e) (Ok f) same = ap event_of same
+pub answer_told_once : (x y : Result Shown Refusal) → answer_told x ≡ answer_told y → x ≡ y
+unfolding answer_told shown_of
+answer_told_once (Ok e) (Ok f) same = ap shown_of same
 answer_told_once (Ok e) (Err s) same = cc
 answer_told_once (Err r) (Ok f) same = cc
 answer_told_once (Err r) (Err s) same = ap Err (number_once r s cc)

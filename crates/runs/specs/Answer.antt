@@ -3,17 +3,13 @@
 use Rattle.std.specs.Prelude.{ℕ, Result, Ok, Err}
 use Rattle.lines.specs.Refusal.{number}
 use Rattle.lines.specs.declared.Refusal.{Refusal}
-use Rattle.rules.specs.declared.Event.{Event}
-
--- what an accepted step shows
-pub record Shown : Type 0 where
-  pub event : Event
+use Rattle.runs.specs.declared.Shown.{Shown}
 
 pub data Answer : Type 0 where
   Accepted : Shown → Answer
   Refused : ℕ → Answer
 
 -- an answer of code, by document 01's number of a refusal
-unfoldable pub answer_told : Result Event Refusal → Answer
-answer_told (Ok e) = Accepted (record { event = e })
+unfoldable pub answer_told : Result Shown Refusal → Answer
+answer_told (Ok s) = Accepted s
 answer_told (Err r) = Refused (number r)

@@ -25,6 +25,12 @@ const CONTROL_LEVELS: usize = 1025;
 
 const STEP_LEVELS: usize = 2048;
 
+// What an accepted step shows.
+#[derive(Clone, Copy)]
+pub struct Shown {
+    pub event: Event,
+}
+
 // Starts a run: control is the call of definition 00 at reference 0, and nothing is marked yet.
 pub fn start(run: &mut Run)
     ensures nodes_after { run.new.words.nodes ≡ spec.fresh_nodes }
@@ -37,10 +43,10 @@ pub fn start(run: &mut Run)
     run.counters = [0u16, 1, 1, 0, 0, 0, 0, 0];
 }
 
-// Steps a run by the first `count` of the digits, to the event that the step shows. Where the words hold a run of a table's
-// plan, the answer is document 01's, and they hold the run behind it. `looking::digit_at` tells why the count stands beside the
-// digits, here and in `weigh` and `perform`.
-pub fn step(count: usize, digits: &Digits, show: &Show, run: &mut Run) -> Result<Event, Refusal>
+// Steps a run by the first `count` of the digits. Where the words hold a run of a table's plan, the answer is document 01's,
+// and they hold the run behind it. `looking::digit_at` tells why the count stands beside the digits, here and in `weigh` and
+// `perform`.
+pub fn step(count: usize, digits: &Digits, show: &Show, run: &mut Run) -> Result<Shown, Refusal>
     ensures counters_after { spec.with_answer (answer_told result) run.new.words.nodes run.new.words.track run.new.counters
         ≡ spec.stepped show.now.plan show.now.table.payloads count digits.now
         run.old.words.nodes run.old.words.track run.old.counters }
@@ -56,7 +62,7 @@ pub fn step(count: usize, digits: &Digits, show: &Show, run: &mut Run) -> Result
     over_room(w, &run.counters)?;
     let taken = perform(count, digits, &show.plan, &run.counters, &mut run.words);
     recount(taken, &mut run.counters);
-    Ok(taken.event)
+    Ok(Shown { event: taken.event })
 }
 
 // Weighs the step that an address names.

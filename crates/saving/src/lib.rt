@@ -35,9 +35,14 @@ pub fn save(table: &Table, run: &Run, work: &mut Work, text: &mut [u8]) -> Resul
     let counts = number(
         usize::from(run.counters[ARCS]),
         usize::from(run.counters[MEETINGS]),
+        &work.marks,
         &run.words.track,
         table,
-        work,
+        &mut work.graph,
+        &mut work.sides,
+        &mut work.pending,
+        &mut work.numbers,
+        &mut work.spare,
     );
     let saved = write(counts, &work.graph, table, text);
     work.graph.labels = [0u16; REFERENCES];

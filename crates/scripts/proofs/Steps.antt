@@ -8,6 +8,7 @@ use Rattle.lines.specs.Line.{choose, number, lines, bytes, characters}
 use Rattle.lines.specs.Refusal.{number as number_of}
 use Rattle.lines.specs.code.Characters.{part}
 use Rattle.lines.specs.declared.Refusal.{Refusal}
+use Rattle.lines.specs.declared.Line.{Line}
 use Rattle.lines.specs.declared.Line.TheVariants.{Found, NoLine, End as NoneLeft}
 use Rattle.lines.proofs.Digits.{both}
 use Rattle.lines.proofs.Laws.{not_a_line, none_left}
@@ -57,6 +58,12 @@ is_refused bs r e = go (asked (some bs)) e
     go : (a : Asked) → number_of r ≡ refusal a → a ≡ refused (number_of r)
     go (address ds) e = absurd (number_not_0 r e)
     go (refused n) e = ap refused (sym e)
+
+-- what is neither a line nor the end is no line
+pub neither : (l : Line) → (l ≡ NoneLeft → ⊥) → ((e n : ℕ) → l ≡ Found e n → ⊥) → l ≡ NoLine
+neither (Found e n) end line = absurd (line e n refl)
+neither NoLine end line = refl
+neither NoneLeft end line = absurd (end refl)
 
 module _ (s : List ℕ) (at : ℕ) where
   -- no line stands at the cursor

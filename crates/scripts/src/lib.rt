@@ -13,7 +13,7 @@ ghost use Rattle.scripts.specs.ScriptStep.{step_told};
 ghost use Rattle.scripts.specs.code.Answers.{refusal};
 
 use line_reader::{Spelling, characters, next_line};
-use lines::{Line, Refusal, Span};
+use lines::{Line, Refusal};
 use numbers::{byte, number};
 
 // First byte of a script's frame.
@@ -51,10 +51,12 @@ pub fn next_step(text: &[u8], at: usize, digits: &mut Digits) -> Result<Option<A
     ensures digits_after { digits.new
         ≡ sets digits.old 0 (left (lines (drop at text.now))) }
 {
-    let Span { end, next } = match next_line(text, at, Spelling::Desk) {
-        Line::Found { end, next } => Span { end, next },
-        Line::NoLine => return Err(Refusal::NotALine),
-        Line::End => return Ok(None),
+    let line = next_line(text, at, Spelling::Desk);
+    if let Line::End = line {
+        return Ok(None);
+    }
+    let Line::Found { end, next } = line else {
+        return Err(Refusal::NotALine);
     };
     let chars = characters(text, at, end);
     judge(chars)?;

@@ -2,47 +2,54 @@
 // their sides, and on the numbering walk.
 #![tactic(auto)]
 
-ghost use Rattle.std.specs.Prelude.{◌≡◌};
+ghost use Rattle.std.specs.Prelude.{◌≡◌, replicate};
 ghost use Rattle.shapes.specs.code.Rules as of;
-ghost use Rattle.links.specs.words.Cleared.{all_but};
+ghost use Rattle.control.specs.words.Words.{reference_room};
+ghost use Rattle.links.specs.code.Linked.{side_words};
 
 use columns::Table;
-use control::{MEETINGS_FROM, REFERENCES};
-use links::{GraphCounts, SIDE_WORDS, Work, link};
+use control::{MEETINGS_FROM, REFERENCES, Track};
+use links::{Column, GraphCounts, SIDE_WORDS, SideWords, link};
 use rules::{ARC_ROOM, MEETING_ROOM};
 use shape_rules::{all_marked, ascend, in_order, join_events};
 use walks::walk;
 
-// Whether a graph has the shape of a saved track: all rules are tested, whichever is broken. The marks of its nodes stand in the
-// work's `marks`, its arcs and meetings in `spare`, and both stay, as the work's own track does; the rest is all 0 afterwards.
-pub fn has_shape(counts: GraphCounts, table: &Table, work: &mut Work) -> bool
+// Whether a graph has the shape of a saved track: all rules are tested, whichever is broken. The last four are scratch, and
+// all 0 afterwards. Columns are lent one by one, so that no caller has to own the graph, which is only read.
+pub fn has_shape(
+    counts: GraphCounts,
+    labels: &Column,
+    graph: &Track,
+    table: &Table,
+    sides: &mut SideWords,
+    pending: &mut SideWords,
+    numbers: &mut Column,
+    walked: &mut Column,
+) -> bool
     ensures value { result ≡ of.has_shape table.now.kinds table.now.payloads table.now.after
-        work.old.marks work.old.spare counts.nodes counts.arcs counts.meetings }
-    ensures work_after { work.new ≡ all_but work.old.marks work.old.spare work.old.graph.track }
+        labels.now graph.now counts.nodes counts.arcs counts.meetings }
+    ensures sides_after { sides.new ≡ replicate side_words 0 }
+    ensures pending_after { pending.new ≡ replicate side_words 0 }
+    ensures numbers_after { numbers.new ≡ replicate reference_room 0 }
+    ensures walked_after { walked.new ≡ replicate reference_room 0 }
 {
     let GraphCounts {
         nodes,
         arcs,
         meetings,
     } = counts;
-    let fits = link(arcs, &work.marks, &work.spare, table, &mut work.sides);
-    let reached = walk(
-        &work.marks,
-        &work.sides,
-        &mut work.numbers,
-        &mut work.graph.labels,
-        &mut work.pending,
-    );
-    let ordered = in_order(nodes, &work.numbers);
-    work.sides = [0u16; SIDE_WORDS];
-    work.numbers = [0u16; REFERENCES];
-    work.graph.labels = [0u16; REFERENCES];
+    let fits = link(arcs, labels, graph, table, sides);
+    let reached = walk(labels, sides, numbers, walked, pending);
+    let ordered = in_order(nodes, numbers);
+    *sides = [0u16; SIDE_WORDS];
+    *numbers = [0u16; REFERENCES];
+    *walked = [0u16; REFERENCES];
     let count = meetings.min(MEETING_ROOM);
-    all_marked(nodes, &work.marks)
-        & ascend(0, arcs.min(ARC_ROOM), &work.spare)
+    all_marked(nodes, labels)
+        & ascend(0, arcs.min(ARC_ROOM), graph)
         & fits
         & (reached == nodes)
         & ordered
-        & ascend(MEETINGS_FROM, count, &work.spare)
-        & join_events(count, &work.marks, &work.spare, &table.payloads)
+        & ascend(MEETINGS_FROM, count, graph)
+        & join_events(count, labels, graph, &table.payloads)
 }

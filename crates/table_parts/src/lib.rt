@@ -6,7 +6,7 @@ ghost use Rattle.tables.specs.Table.{judged};
 ghost use Rattle.columns.specs.words.Held.{held};
 ghost use Rattle.table_parts.specs.code.TableTold as host;
 
-use answers::{DONE, Head, TABLE_STAMP, line_of, of_judged};
+use answers::{DONE, Head, NumberAt, TABLE_STAMP, line_of, of_judged};
 use plans::{Show, lay_out};
 use tables::check;
 
@@ -20,7 +20,7 @@ pub fn check_parts<'s, 'n, 'b>(
     ensures { host.with_table result line.new head.new (held show.new.table) show.new.plan
         ≡ host.checked head.old (held show.old.table) show.old.plan (judged text.now) }
 {
-    let checked = check(text, &mut show.table);
+    let checked = check(text, &mut show.table).map_err(NumberAt::of);
     *line = line_of(checked);
     let Ok(counts) = checked else {
         return of_judged(checked);

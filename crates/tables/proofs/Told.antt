@@ -1,6 +1,6 @@
--- What an answer tells. A refusal that is put at a line was that refusal before, and what was found is handed on as it
--- is; and an answer of the check tells one outcome. Assumes nothing.
-use Rattle.std.proofs.Common.{ℕ, ◌≡◌, refl, sym, subst, ap, ◌∙◌, Result, Ok, Err, IsErrAnd, MatchResult}
+-- What an answer tells where it is one of a line, or a refusal at a line; and an answer of the check tells one outcome. Assumes
+-- nothing.
+use Rattle.std.proofs.Common.{ℕ, ◌≡◌, sym, ap, ◌∙◌, Result, Ok, Err}
 use Rattle.std.proofs.Common.{arith}
 use Rattle.lines.specs.Refusal.{number}
 use Rattle.lines.specs.declared.Refusal.{Refusal}
@@ -12,40 +12,16 @@ use Rattle.refusals.specs.code.Said.{Said, Goes, TableOpened, Table, first_told,
 use Rattle.tables.specs.declared.TableCounts.{TableCounts}
 use Rattle.tables.specs.Checked.{Refused, checked_told}
 
--- a result whose refusal is changed as `Q` says: what it was, by what it is
-module _ {A : Type 0} (Q : Refusal → RefusedAt → Type 0) (x : Result A Refusal) (y : Result A RefusedAt)
-    (h : MatchResult x (λ a. y ≡ Ok a) (λ r. IsErrAnd y (Q r))) where
-  pub changed : {e : RefusedAt} → y ≡ Err e → (r : Refusal) × (x ≡ Err r) × Q r e
-  changed {e} q = go x y h q
-    where
-      go : (x : Result A Refusal) (y : Result A RefusedAt) → MatchResult x (λ a. y ≡ Ok a) (λ r. IsErrAnd y (Q r))
-          → y ≡ Err e → (r : Refusal) × (x ≡ Err r) × Q r e
-      go (Ok a) y h q = let z : ◌≡◌ {A = ℕ} 0 1 = cc in absurd (omega arith)
-      go (Err r) (Ok a) h q = absurd h
-      go (Err r) (Err d) h q = let same : d ≡ e = cc in (r, refl, subst (Q r) same h)
+-- what line 1 opens, and what a line goes on with
+pub table_told : {x : Result TableOpening Refusal} {o : TableOpening} → x ≡ Ok o → {t : TableOpened} → first_told x ≡ t
+    → t ≡ Table o.definitions o.events o.next
+unfolding first_told
+table_told is told = sym told ∙ ap first_told is
 
-  found : {a : A} → y ≡ Ok a → x ≡ Ok a
-  found {a} q = go x y h q
-    where
-      go : (x : Result A Refusal) (y : Result A RefusedAt) → MatchResult x (λ a. y ≡ Ok a) (λ r. IsErrAnd y (Q r))
-          → y ≡ Ok a → x ≡ Ok a
-      go (Ok b) y h q = let same : b ≡ a = cc in ap (λ c. Ok c) same
-      go (Err r) (Ok b) h q = absurd h
-      go (Err r) (Err e) h q = let z : ◌≡◌ {A = ℕ} 0 1 = cc in absurd (omega arith)
-
--- what line 1 opens, and what a line goes on with, where the refusal is changed and there is none
-module _ (Q : Refusal → RefusedAt → Type 0) where
-  pub table_told : (x : Result TableOpening Refusal) (y : Result TableOpening RefusedAt)
-      → MatchResult x (λ o. y ≡ Ok o) (λ r. IsErrAnd y (Q r)) → {o : TableOpening} → y ≡ Ok o
-      → {t : TableOpened} → first_told x ≡ t → t ≡ Table o.definitions o.events o.next
-  unfolding first_told
-  table_told x y h q told = sym told ∙ ap first_told (found Q x y h q)
-
-  pub goes_told : (x : Result FrameLine Refusal) (y : Result FrameLine RefusedAt)
-      → MatchResult x (λ l. y ≡ Ok l) (λ r. IsErrAnd y (Q r)) → {l : FrameLine} → y ≡ Ok l
-      → {t : Said} → line_told x ≡ t → Goes l.frame l.next ≡ t
-  unfolding line_told
-  goes_told x y h q told = sym (ap line_told (found Q x y h q)) ∙ told
+pub goes_told : {x : Result FrameLine Refusal} {l : FrameLine} → x ≡ Ok l → {t : Said} → line_told x ≡ t
+    → Goes l.frame l.next ≡ t
+unfolding line_told
+goes_told is told = sym (ap line_told is) ∙ told
 
 -- a refusal at a line tells its number and the line
 pub refused_told : (e : RefusedAt) {r : Refusal} {k : ℕ} → (e.refusal ≡ r) × (e.line ≡ k)

@@ -41,7 +41,10 @@ pub fn check(text: &[u8], table: &mut Table) -> Result<TableCounts, RefusedAt>
     if TABLE_TEXT_ROOM < text.len() {
         return Err(Refusal::TextOverRoom.at(0));
     }
-    let opening = first_line(text).map_err(|refusal| refusal.at(1))?;
+    let first = first_line(text);
+    let Ok(opening) = first else {
+        return Err(first.unwrap_err().at(1));
+    };
     let mut own = Table::new();
     let counts = body(text, opening, &mut own)?;
     walk(&own.kinds, counts.terms, &mut own.after);
@@ -73,7 +76,9 @@ fn body(text: &[u8], opening: TableOpening, table: &mut Table) -> Result<TableCo
     // No `for` over the lines' numbers: they have no end, and what would stand behind the loop is never reached.
     loop {
         let said = table_line(text, at, s);
-        let FrameLine { frame, next } = said.map_err(|refusal| refusal.at(line))?;
+        let Ok(FrameLine { frame, next }) = said else {
+            return Err(said.unwrap_err().at(line));
+        };
         if closes(frame) {
             return closed(text, next, s, line + 1);
         }

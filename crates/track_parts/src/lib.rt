@@ -6,8 +6,8 @@ ghost use Rattle.std.specs.Prelude.{◌≡◌, length};
 ghost use Rattle.track_parts.specs.code.TrackTold as host;
 
 use answers::{
-    DONE, Head, NO_TABLE, NO_TRACK, TABLE_STAMP, TRACK_STAMP, length_of, line_of, of_judged,
-    of_saved, unready,
+    DONE, Head, NO_TABLE, NO_TRACK, NumberAt, TABLE_STAMP, TRACK_STAMP, length_of, line_of,
+    of_judged, of_saved, unready,
 };
 use columns::Table;
 use control::Run;
@@ -61,7 +61,7 @@ pub fn read_parts<'s, 'n, 'b>(
         return NO_TABLE;
     }
     let definitions = head[1];
-    let read = read_track(text, definitions, table, graph, work);
+    let read = read_track(text, definitions, table, graph, work).map_err(NumberAt::of);
     *line = line_of(read);
     let Ok(counts) = read else {
         return of_judged(read);

@@ -31,15 +31,21 @@ pub fn walk(
     *pending = [0u16; SIDE_WORDS];
     let mut top = pending_first(marks);
     let mut count: usize = 0;
-    // What is pending is a stack: no range says how often it is taken from.
-    while top > 0 {
-        top -= 1;
-        let node = usize::from(pending[top]);
-        if numbers[node] == 0 {
-            count = give_number(node, count, marks, numbers, labels);
-            top = push(node, 2, top, sides, pending);
-            top = push(node, 1, top, sides, pending);
-        }
+    // Document 01's form for the numbering walk: the inner loop takes from what is pending, and yields the next node with no number.
+    'walk: loop {
+        let node = loop {
+            if top == 0 {
+                break 'walk;
+            }
+            top -= 1;
+            let next = usize::from(pending[top]);
+            if numbers[next] == 0 {
+                break next;
+            }
+        };
+        count = give_number(node, count, marks, numbers, labels);
+        top = push(node, 2, top, sides, pending);
+        top = push(node, 1, top, sides, pending);
     }
     *pending = [0u16; SIDE_WORDS];
     count

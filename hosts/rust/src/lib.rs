@@ -45,7 +45,7 @@
 //! | [`Run::step`] | 1,639,536 |
 //! | [`Run::offers`], [`Run::status`] | 186,784 |
 //! | [`Table::check`] | 12,744 |
-//! | [`Run::save`] | 448 |
+//! | [`Run::save`] | 480 |
 //! | [`Track::write`] | 352 |
 //! | [`Track::read`] | 328 |
 //! | [`Run::start`] | 24 |

@@ -1,6 +1,6 @@
 -- `numbering::number_pairs` meets its contract: the numbers of the pairs are put, read back, and put in order.
 -- Assumes nothing.
-use Rattle.std.proofs.Common.{arith, refl}
+use Rattle.std.proofs.Common.{arith}
 use Rattle.links.proofs.Listed.{put_long}
 use Rattle.numbering.proofs.Assembled.{kept_fits, kept_sorted}
 use Rattle.numbering.proofs.number_pairs.Goals as goal
@@ -16,4 +16,4 @@ returns c =
     let ordered = kept_sorted _ _ _ _ _ _ _ _ _ c.requires.by_index c.requires.nodes_le_reference_room.2 c.requires.graph_len.0
     c.renumber-kept.ensures _ c.sort.ensures.track_after in
     let spare_long = put_long _ _ _ _ c.requires.graph_len.1 c.sort.ensures.spare_after in
-    record { graph_after = ordered; labels_kept = refl; marks_kept = refl; numbers_kept = refl; spare_len = spare_long; starts_after = c.sort.ensures.starts_after }
+    record { graph_after = ordered; spare_len = spare_long; starts_after = c.sort.ensures.starts_after }

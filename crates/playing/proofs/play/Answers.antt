@@ -1,6 +1,6 @@
 -- `playing::play` meets its contract: a line that asks for no step leaves every word as it was, and one that
 -- asks for a step comes to what the step answers; what that says of a run is told with it. Assumes nothing.
-use Rattle.std.proofs.Common.{refl, ap, Option, Ok}
+use Rattle.std.proofs.Common.{refl, ap, ◌∙◌, Option, Ok}
 use Rattle.std.proofs.lemmas.Result.{err_from_is_err_and}
 use Rattle.scripts.specs.declared.Address.{Address}
 use Rattle.scripts.specs.ScriptStep.{step_told}
@@ -9,37 +9,35 @@ use Rattle.playing.specs.Played.{played_told}
 use Rattle.playing.proofs.Laws.{line_refused, script_ends, step_refused, shown_played}
 use Rattle.playing.proofs.play.Goals as goal
 
-pub returns-in_err-asked : goal.returns-in_err-asked
+pub returns-in-Err : goal.returns-in-Err
 unfolding played_told step_told
-returns-in_err-asked c =
-    let h = c.in_err-asked.ensures {u = tt} in
-    let told = line_refused _ _ _ _ _ _ _ _ _ _ (h.value, h.digits_after) _ refl in
-    let p = err_from_is_err_and c.from_residual.result c.from_residual.ensures.1 in
-    rw (p.1, p.2) (record { counters_after = told.0; digits_after = told.1.0; plays = told.1.1 })
+returns-in-Err c =
+    let told = line_refused _ _ _ _ _ _ _ _ _ _ (c.next_step.ensures.value, c.next_step.ensures.digits_after) _
+    (ap step_told c.in-Err.is) in
+    record { counters_after = told.0; digits_after = told.1.0; plays = told.1.1 }
 
 pub returns-in_default : goal.returns-in_default
 unfolding played_told step_told
 returns-in_default c =
-    let h = c.in_ok-asked.ensures {u = tt} in
-    let ends = ap (λ (o : Option Address). step_told (Ok o)) c.in_default.is in
-    let told = script_ends _ _ _ _ _ _ _ _ _ _ (h.value, h.digits_after) ends in
+    let ends = ap step_told c.in-Ok.is ∙ ap (λ (o : Option Address). step_told (Ok o)) c.in_default.is in
+    let told = script_ends _ _ _ _ _ _ _ _ _ _ (c.next_step.ensures.value, c.next_step.ensures.digits_after) ends in
     record { counters_after = told.0; digits_after = told.1.0; plays = told.1.1 }
 
 pub returns-in_err-event : goal.returns-in_err-event
 unfolding played_told step_told answer_told
 returns-in_err-event c =
-    let h = c.in_ok-asked.ensures {u = tt} in
-    let asks = ap (λ (o : Option Address). step_told (Ok o)) c.in-Some.is in
+    let asks = ap step_told c.in-Ok.is ∙ ap (λ (o : Option Address). step_told (Ok o)) c.in-Some.is in
     let k = c.in_err-event.ensures {u = tt} in
-    let told = step_refused _ _ _ _ _ _ _ _ _ _ (h.value, h.digits_after) _ _ asks _ _ _ _ k.counters_after _ refl in
-    let p = err_from_is_err_and c.from_residual-in_err-event.result c.from_residual-in_err-event.ensures.1 in
+    let told = step_refused _ _ _ _ _ _ _ _ _ _ (c.next_step.ensures.value, c.next_step.ensures.digits_after) _ _ asks
+    _ _ _ _ k.counters_after _ refl in
+    let p = err_from_is_err_and c.from_residual.result c.from_residual.ensures.1 in
     rw (p.1, p.2) (record { counters_after = told.0; digits_after = told.1.0; plays = told.1.1 })
 
 pub returns : goal.returns
 unfolding played_told step_told answer_told
 returns c =
-    let h = c.in_ok-asked.ensures {u = tt} in
-    let asks = ap (λ (o : Option Address). step_told (Ok o)) c.in-Some.is in
+    let asks = ap step_told c.in-Ok.is ∙ ap (λ (o : Option Address). step_told (Ok o)) c.in-Some.is in
     let k = c.in_ok-event.ensures {u = tt} in
-    let told = shown_played _ _ _ _ _ _ _ _ _ _ (h.value, h.digits_after) _ _ asks _ _ _ _ k.counters_after _ refl in
+    let told = shown_played _ _ _ _ _ _ _ _ _ _ (c.next_step.ensures.value, c.next_step.ensures.digits_after) _ _ asks
+    _ _ _ _ k.counters_after _ refl in
     record { counters_after = told.0; digits_after = told.1.0; plays = told.1.1 }

@@ -18,7 +18,7 @@ returns-then-not-fits c =
     let lines = c.read_lines-read.ensures in
     let shape = c.has_shape-fits.ensures in
     let judged = rules_decide _ _ _ _ _ _ _ lines (ap read_told c.in-Ok.is) shape.value (ap not c.if-not-fits.true) in
-    record { held = rw (c.at.ensures.0, c.at.ensures.1, shape.work_after) judged; work_after = rw shape.work_after refl }
+    record { held = rw (c.at.ensures.0, c.at.ensures.1) judged; work_after = rw (shape.sides_after, shape.pending_after, shape.numbers_after, shape.walked_after) refl }
 
 pub returns : goal.returns
 unfolding read_told
@@ -26,4 +26,4 @@ returns c =
     let lines = c.read_lines-read.ensures in
     let shape = c.has_shape-fits.ensures in
     let judged = rules_decide _ _ _ _ _ _ _ lines (ap read_told c.in-Ok.is) shape.value (ap not c.if-not-fits.false) in
-    record { held = rw shape.work_after judged; work_after = rw shape.work_after refl }
+    record { held = judged; work_after = rw (shape.sides_after, shape.pending_after, shape.numbers_after, shape.walked_after) refl }

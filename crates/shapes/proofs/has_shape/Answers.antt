@@ -6,14 +6,17 @@ use Rattle.shapes.proofs.has_shape.Goals as goal
 
 pub returns : goal.returns
 returns c =
-    let counts = c.args.counts in
-    let table = c.args.table.now in
-    let work = c.args.work.now in
+    let args = c.args in
+    let counts = args.counts in
+    let table = args.table.now in
     record {
-      value = rules_tested table.kinds table.payloads table.after work.marks work.spare
+      value = rules_tested table.kinds table.payloads table.after args.labels.now args.graph.now
           counts.nodes counts.arcs counts.meetings c.all_marked.ensures
           c.min.ensures c.ascend.ensures (c.link-fits.ensures.value, c.link-fits.ensures.sides_after) c.walk-reached.ensures.labels_after
           c.in_order-ordered.ensures c.min-count.ensures c.ascend-2.ensures
           c.join_events.ensures;
-      work_after = rw c.walk-reached.ensures.pending_after refl;
+      sides_after = refl;
+      pending_after = c.walk-reached.ensures.pending_after;
+      numbers_after = refl;
+      walked_after = refl;
     }
