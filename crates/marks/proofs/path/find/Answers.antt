@@ -26,7 +26,7 @@ pub returns-in-1-2 : goal.returns-in-1-2
 returns-in-1-2 c =
     found_event _ _ _ _ _ c.loop-i-test.true c.byte-digit.ensures
     (c.subterms-below.ensures ∙ ap subterms c.kind_of.ensures) c.if-below-eq0.false
-    c.in-1.is c.if-below-eq2.false c.event_end.ensures refl
+    (omega arith) c.if-below-eq2.false c.event_end.ensures refl
     ∙ sym c.loop-i.invariant
 
 pub last_subterm-term-requires : goal.last_subterm-term-requires
@@ -51,10 +51,10 @@ loop-i-preserved c =
     let on : ℕ → ℕ = λ u. of.find ks xs u (drop (c.loop-i.i + 1) (read_bytes c.args.chars.now)) in
     c.loop-i.invariant
     ∙ elim c.match-digit.branch [
-      | in-1 w ↦ found_first _ ks xs _ _ more digit count c.if-below-eq0.false w.in-1.is w.if-below-eq2.true
+      | in-1 w ↦ found_first _ ks xs _ _ more digit count c.if-below-eq0.false (omega arith) w.if-below-eq2.true
           ∙ sym (ap on w.term-is)
       | in-2 w ↦ found_last _ ks xs _ _ more digit count c.if-below-eq0.false
-          (λ z. omega arith) w.in-2.is w.last_subterm-term.ensures ∙ sym (ap on w.term-is)
+          (λ z. omega arith) (omega arith) w.last_subterm-term.ensures ∙ sym (ap on w.term-is)
     ]
 
 pub returns : goal.returns

@@ -1,4 +1,4 @@
-use Rattle.std.proofs.Common.{sym, ap, ◌∙◌}
+use Rattle.std.proofs.Common.{sym, ap, ◌∙◌, arith}
 use Rattle.kinds.specs.Kind.{subterms}
 use Rattle.places.proofs.Ways.{inside, way_begun, way_done, way_short, way_leaf, way_on}
 use Rattle.places.proofs.descent.descend.Goals as goal
@@ -14,11 +14,11 @@ returns-then-most-depth c =
     elim c.then-most-depth.branch [
       | then-most-depth-via-then-most-depth w ↦
           let told = way_short _ _ _ _ _ _ _ _ _ _ c.loop-here.invariant c.loop-here-test.true w.if-most-depth.true in
-          record { value = told.0; path_after = told.1 }
+          record { value = told.0; path_after = grind (arith, told.1) }
       | then-most-depth-via-else-most-depth+then-count-eq0 w ↦
           let told =
           way_leaf _ _ _ _ _ _ _ _ _ _ c.loop-here.invariant c.loop-here-test.true (sym count ∙ w.if-count-eq0.true) in
-          record { value = told.0; path_after = told.1 }
+          record { value = told.0; path_after = grind (arith, told.1) }
     ]
 
 pub step_to-step-requires : goal.step_to-step-requires
