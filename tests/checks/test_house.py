@@ -180,6 +180,8 @@ def constants_declared_twice(root):
 # ---- doors
 
 OF_A_READER = {"standard_input::read_full"}  # what a reader gives is its own: no law settles it
+TAKEN_WITH_A_TYPE = r"Dict|(?:Laws|IsCopy|Ghosts) T(?:\.Denot)?"  # of a contract over a type parameter T
+OF_EVERY_TYPE = rf"\(T : RattleType\)\s+(?:\(\w+ : (?:{TAKEN_WITH_A_TYPE})\)\s+)*→ "
 
 
 def statements(text):
@@ -252,7 +254,8 @@ def unsettled_functions(root):
 
     One that takes a block promises what the function over the block's parts does, and the law is of that one.
     One that is exported by a static library promises what the function does that it hands all on to.
-    The law of one over a type parameter is of every type, which its statement takes first.
+    The law of one over a type parameter is of every type: its statement takes that first, with what the contract takes of it,
+    and no other premise.
     """
     laws = "\n".join(sources.text_of(root, file) for file in sources.files(root, "outcomes/proofs/*.antt"))
     exported = {(one.crate, one.name): one for one in exported_functions(root)}
@@ -261,7 +264,7 @@ def unsettled_functions(root):
             continue
         crate, name = settled_by(root, one, exported)
         law = f"{crate}_{name}_settled"
-        if not re.search(rf"^pub {re.escape(law)} : (?:(?:\([^()]*\)\s+)+→ )?Settles\s", laws, re.MULTILINE):
+        if not re.search(rf"^pub {re.escape(law)} : (?:{OF_EVERY_TYPE})?Settles\s", laws, re.MULTILINE):
             yield f"{one.crate}::{one.name}: no law {law}"
 
 
@@ -551,13 +554,25 @@ pub walks_wide_settled : Settles
     def test_settled_for_every_type(self):
         root = self.tree(self.CRATES + """\
 == outcomes/proofs/Doors.antt
-pub walks_walk_settled : (T : RattleType) (l : Laws T)
+pub walks_walk_settled : (T : RattleType) (l : Laws T) (g : Ghosts T.Denot) (d : Dict)
     → Settles (walk.Learnt T l) (λ κ x s. x)
 pub walks_link_settled : (T : RattleType) → Same T
 == outcomes/proofs/Inner.antt
 pub walks_wide_settled : Settles wide.Learnt (λ κ x s. x)
 """)
         self.assertEqual([fault.split(": ")[0] for fault in unsettled_functions(root)], ["walks::link"])
+
+    def test_settled_under_no_premise(self):
+        root = self.tree(self.CRATES + """\
+== outcomes/proofs/Doors.antt
+pub walks_walk_settled : (h : 0 ≡ 1) → Settles walk.Learnt (λ κ x s. x)
+pub walks_link_settled : (T : RattleType) (h : 0 ≡ 1)
+    → Settles (link.Learnt T) (λ κ x s. x)
+== outcomes/proofs/Inner.antt
+pub walks_wide_settled : Settles wide.Learnt (λ κ x s. x)
+""")
+        faults = [fault.split(": ")[0] for fault in unsettled_functions(root)]
+        self.assertEqual(faults, ["walks::link", "walks::walk"])
 
     def test_what_a_reader_gives_is_not_settled(self):
         root = self.tree("""\
