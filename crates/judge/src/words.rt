@@ -77,26 +77,32 @@ pub fn say_script(rt: &impl Print, script: &[u8]) -> io::Result<()> {
     let mut digits = [0u8; DIGIT_ROOM];
     let mut at = 0;
     for line in 1..=SCRIPT_TEXT_ROOM {
-        match next_step(script, at, &mut digits) {
-            Ok(Some(Address { count, next })) => {
-                print!(rt; "step {line}")?;
-                say_digits(rt, part_of(&digits, 0, count))?;
-                println!(rt)?;
-                at = next;
-            }
-            Ok(None) => return Ok(()),
-            Err(refusal) => return say_refusal(rt, "script", refusal.at(line)),
-        }
+        let step = next_step(script, at, &mut digits);
+        let Ok(Some(Address { count, next })) = step else {
+            return say_end(rt, step, line);
+        };
+        print!(rt; "step {line}")?;
+        say_digits(rt, part_of(&digits, 0, count))?;
+        rt.write_all(b"\n")?;
+        at = next;
     }
     Ok(())
 }
 
-// Digits behind a blank, and a dash where there are none.
+// What ends a script: the refusal of its line, or nothing where there is none.
+fn say_end(rt: &impl Print, step: Result<Option<Address>, Refusal>, line: usize) -> io::Result<()> {
+    match step {
+        Ok(_) => Ok(()),
+        Err(refusal) => say_refusal(rt, "script", refusal.at(line)),
+    }
+}
+
+// Digits behind a blank, and a dash where there are none. For speed, what has no number in it is written as it stands.
 fn say_digits(rt: &impl Print, digits: &[u8]) -> io::Result<()> {
     if digits.is_empty() {
-        return print!(rt; " -");
+        return rt.write_all(b" -");
     }
-    print!(rt; " ")?;
+    rt.write_all(b" ")?;
     for digit in digits {
         print!(rt; "{digit}")?;
     }

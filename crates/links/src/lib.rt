@@ -36,7 +36,7 @@ pub struct Graph {
 }
 
 // Room to work in, for saving and reading, as C lays it out. What stands there does not matter to either; `number` and `has_shape`
-// below them say what they read of it.
+// below them are lent its parts one by one, by shared references what they only read.
 #[repr(C)]
 #[derive(Drop)]
 pub struct Work {

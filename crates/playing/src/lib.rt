@@ -44,10 +44,10 @@ pub fn play(
         (words_of run.old) (played_told result)
         (words_of run.new) }
 {
-    // No `?`: a refusal has an arm of its own, by whose value alone a wrong one differs.
-    let asked = match next_step(text, at, digits) {
-        Ok(asked) => asked,
-        Err(refusal) => return Err(refusal),
+    let line = next_step(text, at, digits);
+    let Ok(asked) = line else {
+        let refusal = line.unwrap_err();
+        return Err(refusal);
     };
     let Some(Address { count, next }) = asked else {
         return Ok(None);
